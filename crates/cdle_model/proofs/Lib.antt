@@ -1,0 +1,9 @@
+pub mod Trees
+pub mod Bounds
+pub mod Scoping
+pub mod CoreReads
+pub mod CoreAgain
+pub mod CoreRuns
+pub mod CoreFree
+pub mod CorePrefixes
+pub mod CoreEndings

@@ -1,0 +1,29 @@
+//! The laws of the definitions. Each is the contract of a function with an empty body.
+ghost use Rattle.std.specs.Prelude.{◌≡◌, ℕ, List, false, length};
+ghost use Rattle.cdle_model.specs.CoreFaults.{BadText, Fault};
+ghost use Rattle.cdle_model.specs.CoreNames.{Name, Names};
+ghost use Rattle.cdle_model.specs.CoreText.{Reads, Says, Stands};
+ghost use Rattle.cdle_model.specs.CoreTokens.{Token, tokens};
+ghost use Rattle.cdle_model.specs.CoreWants.{IsFirstBadPlace, IsFirstFault};
+ghost use Rattle.cdle_model.specs.Forms.{Written};
+ghost use Rattle.cdle_model.specs.Trees.{Tree};
+ghost use Rattle.cdle_model.specs.declared.grammar.Class.{Class};
+ghost use Rattle.cdle_model.specs.declared.grammar.CoreWanted.{CoreWanted};
+
+/// The tokens of a part are one tree, and the bytes of a file say one list of items.
+pub fn one_text_one_tree()
+    ensures part { (left : ℕ) (scope : Names) (c : Class) (ts : List Token) (t u : Tree) (r s : List Token)
+        → Reads Stands left scope c ts t r → Reads Stands left scope c ts u s → (t ≡ u) × (r ≡ s) }
+    ensures file { (bytes : List ℕ) (known : List Name) (is js : List Written) → Says bytes known is → Says bytes known js → is ≡ js }
+{}
+
+/// Bytes that say items have no first fault.
+pub fn said_is_faultless()
+    ensures { (bytes : List ℕ) (known : List Name) (is : List Written) (f : Fault) → Says bytes known is → IsFirstFault bytes known f → ⊥ }
+{}
+
+/// A bad text goes wrong at the first token after which no text of the grammar continues, or at its end.
+pub fn bad_text_is_first()
+    ensures { (bytes : List ℕ) (known : List Name) (at : ℕ) (what : CoreWanted)
+        → IsFirstFault bytes known (BadText at what) → IsFirstBadPlace (length bytes) known (tokens false 0 bytes) at what }
+{}
