@@ -1,6 +1,8 @@
 pub mod Trees
 pub mod Bounds
 pub mod Scoping
+pub mod CoreItems
+pub mod FirstChecked
 pub mod CoreReads
 pub mod CoreAgain
 pub mod CoreRuns
