@@ -31,13 +31,13 @@ IsSound (Type' p outer) = IsSound outer
 -- the sort of each item: all of them define terms
 abbrev pub term_sorts : List Tree → List Sort
 term_sorts [] = []
-term_sorts (a ∷ as) = OfTerm ∷ term_sorts as
+term_sorts (a ∷ tys) = OfTerm ∷ term_sorts tys
 
 -- items of these types, of whose bodies nothing is asked
 abbrev pub typed : List Tree → List Item
 typed [] = []
-typed (a ∷ as) = record { known = term_of a; body = star } ∷ typed as
+typed (a ∷ tys) = record { known = term_of a; body = star } ∷ typed tys
 
 -- each is of these forms, and no deeper than a written type
 abbrev pub AreTypes : List Tree → Type 0
-AreTypes as = All (λ a. IsFirstType a × (depth a ≤ 4096)) as
+AreTypes tys = All (λ a. IsFirstType a × (depth a ≤ 4096)) tys
