@@ -7,3 +7,15 @@ pub mod CoreRuns
 pub mod CoreFree
 pub mod CorePrefixes
 pub mod CoreEndings
+pub mod Renaming
+pub mod Shifts
+pub mod Rewriting
+pub mod Congruence
+pub mod Closed
+pub mod Parallel
+pub mod Reflection
+pub mod Eta
+pub mod Confluent
+pub mod Equality
+pub mod MissingVariable
+pub mod ErasedSubstitution

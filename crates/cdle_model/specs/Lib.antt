@@ -5,6 +5,12 @@ pub mod Classes
 pub mod Erasure
 pub mod Steps
 pub mod Derivation
+pub mod Machine
+pub mod HeadForms
+pub mod Comparison
+pub mod Fitting
+pub mod Check
+pub mod Examples
 pub mod FirstCheck
 pub mod Code
 pub mod ItemCode

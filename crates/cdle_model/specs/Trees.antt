@@ -77,10 +77,6 @@ lacks k (apply c p q) = cond (lacks k p) (lacks k q) false
 lacks k (binary j p q) = cond (lacks k p) (lacks k q) false
 lacks k (bind f p q) = cond (lacks k p) (lacks (suc k) q) false
 
--- the innermost variable is not in the tree: it stands under a binder that it does not use
-abbrev pub IsRaised : Tree → Type 0
-IsRaised t = (p : Tree) × (t ≡ shift 0 1 p)
-
 -- every free variable is below `k`; the tree is closed where k is 0
 abbrev pub IsBelow : ℕ → Tree → Type 0
 IsBelow k (var i) = i < k
