@@ -19,3 +19,7 @@ pub mod Confluent
 pub mod Equality
 pub mod MissingVariable
 pub mod ErasedSubstitution
+pub mod Runs
+pub mod HeadParts
+pub mod SameJoined
+pub mod ApartNotJoined
