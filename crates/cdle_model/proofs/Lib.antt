@@ -1,5 +1,6 @@
 pub mod Trees
 pub mod Bounds
+pub mod Placed
 pub mod Scoping
 pub mod CoreReads
 pub mod CoreAgain
@@ -23,3 +24,9 @@ pub mod Runs
 pub mod HeadParts
 pub mod SameJoined
 pub mod ApartNotJoined
+pub mod UniqueTypes
+pub mod ScopedTrees
+pub mod Signatures
+pub mod RenamedDerivations
+pub mod SubstitutedDerivations
+pub mod Inversion
