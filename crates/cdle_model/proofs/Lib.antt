@@ -30,3 +30,6 @@ pub mod Signatures
 pub mod RenamedDerivations
 pub mod SubstitutedDerivations
 pub mod Inversion
+pub mod CheckSteps
+pub mod TreeChecked
+pub mod ItemsChecked
