@@ -134,7 +134,7 @@ some_left n = grind (arith, nat_tests)
 run_opens : (end left at : ℕ) (scope : Names) (c : Class) (ws : List Want) (ts : List Token) (b : Bool)
     → run end (FormOf left scope c ∷ ws) ts ≡ (form_with (part_at end left) end left scope c ts >>= λ x. run end ws x.1)
     → goes_on at (wanted_part c) (cond b (fine (FormOf left scope c ∷ [])) None) (λ front. run end (front ++ ws) ts)
-        ≡ (cond b (form_with (part_at end left) end left scope c ts) (Err (BadText at (wanted_part c))) >>= λ x. run end ws x.1)
+    ≡ (cond b (form_with (part_at end left) end left scope c ts) (Err (BadText at (wanted_part c))) >>= λ x. run end ws x.1)
 run_opens end left at scope c ws ts true e = e
 run_opens end left at scope c ws ts false e = refl
 

@@ -2,6 +2,8 @@ pub mod Trees
 pub mod Bounds
 pub mod Placed
 pub mod Scoping
+pub mod CoreItems
+pub mod FirstChecked
 pub mod CoreReads
 pub mod CoreAgain
 pub mod CoreRuns

@@ -1,10 +1,13 @@
 //! The laws of the definitions. Each is the contract of a function with an empty body.
-ghost use Rattle.std.specs.Prelude.{◌≡◌, ℕ, List, false, length};
+ghost use Rattle.std.specs.Prelude.{◌≡◌, ℕ, List, [], false, length};
+ghost use Rattle.cdle_model.specs.Classes.{AreItems, AreOver};
 ghost use Rattle.cdle_model.specs.CoreFaults.{BadText, Fault};
-ghost use Rattle.cdle_model.specs.CoreNames.{Name, Names};
+ghost use Rattle.cdle_model.specs.CoreNames.{Name, Names, with_items};
 ghost use Rattle.cdle_model.specs.CoreText.{Reads, Says, Stands};
 ghost use Rattle.cdle_model.specs.CoreTokens.{Token, tokens};
 ghost use Rattle.cdle_model.specs.CoreWants.{IsFirstBadPlace, IsFirstFault};
+ghost use Rattle.cdle_model.specs.Derivation.{AreDerived};
+ghost use Rattle.cdle_model.specs.FirstCheck.{AreFirstItems, accepts, first_check};
 ghost use Rattle.cdle_model.specs.Forms.{Written};
 ghost use Rattle.cdle_model.specs.Trees.{Tree};
 ghost use Rattle.cdle_model.specs.declared.grammar.Class.{Class};
@@ -26,4 +29,16 @@ pub fn said_is_faultless()
 pub fn bad_text_is_first()
     ensures { (bytes : List ℕ) (known : List Name) (at : ℕ) (what : CoreWanted)
         → IsFirstFault bytes known (BadText at what) → IsFirstBadPlace (length bytes) known (tokens false 0 bytes) at what }
+{}
+
+/// What a text says behind items is a list of items, each closed and over the earlier ones, with each variable and name used in its class,
+/// and of the forms that the check knows.
+pub fn read_items_are_items()
+    ensures over { (bytes : List ℕ) (es ws : List Written) → Says bytes (with_items es []) ws → AreOver es ws }
+    ensures forms { (bytes : List ℕ) (es ws : List Written) → Says bytes (with_items es []) ws → AreFirstItems ws }
+{}
+
+/// Where the check accepts a list of items of these forms, the list has a derivation.
+pub fn accepted_is_derived()
+    ensures { (ws : List Written) → AreItems ws → AreFirstItems ws → first_check ws ≡ accepts → AreDerived ws }
 {}

@@ -10,7 +10,10 @@ mod laws;
 mod text;
 
 pub use grammar::{Class, CoreWanted, Count, Form, Piece, Sort};
-pub use laws::{bad_text_is_first, one_text_one_tree, said_is_faultless};
+pub use laws::{
+    accepted_is_derived, bad_text_is_first, one_text_one_tree, read_items_are_items,
+    said_is_faultless,
+};
 pub use text::Text;
 
 /// Memory was wanted and not there.

@@ -1,0 +1,245 @@
+-- What a Core text says fits its classes and its scope, and has the forms of the grammar alone.
+use Rattle.std.proofs.Common.{◌≡◌, ℕ, zero, suc, ◌+◌, ◌<◌, Bool, true, false, cond, List, [], ◌∷◌, ◌++◌, length, Option, Some, None, refl, sym, ap, subst, ◌∙◌, arith, slice_get, length-append, append_assoc}
+use Rattle.std.proofs.lemmas.List.{append-nil}
+use Rattle.std.specs.Prelude.{codes}
+use Rattle.std.specs.Str.{bytes_eq}
+use Rattle.cdle_model.specs.declared.grammar.Sort.{Sort}
+use Rattle.cdle_model.specs.declared.grammar.Sort.TheVariants.{OfTerm, OfType}
+use Rattle.cdle_model.specs.declared.grammar.Class.{Class}
+use Rattle.cdle_model.specs.declared.grammar.Class.TheVariants.{Kind, Ty, Term}
+use Rattle.cdle_model.specs.declared.grammar.Form.{Form}
+use Rattle.cdle_model.specs.declared.grammar.Form.TheVariants.{Pi, Allt, Lam, Xlam}
+use Rattle.cdle_model.specs.declared.grammar.Piece.{Piece}
+use Rattle.cdle_model.specs.declared.grammar.Piece.TheVariants.{Binder, Part, Under}
+use Rattle.cdle_model.specs.Trees.{Tree, var, name}
+use Rattle.cdle_model.specs.Forms as forms
+use Rattle.cdle_model.specs.Forms.{Written, def_item, type_item}
+use Rattle.cdle_model.specs.Classes.{TreeClass, kinds, types, terms, Scope, within, Fits, item_sort, item_sorts, IsOver, AreOver}
+use Rattle.cdle_model.specs.FirstCheck.{IsFirstType, IsFirstTerm, IsFirstItem, AreFirstItems}
+use Rattle.cdle_model.specs.CoreTokens.{Token}
+use Rattle.cdle_model.specs.CoreGrammar.{names_of, form_words, pieces, class_of_form, made, look_up, item_words, item_pieces, item_parts}
+use Rattle.cdle_model.specs.CoreNames.{Name, Names, under, behind, binder_of, item_of, or_else, stands, with_item, with_items}
+use Rattle.cdle_model.specs.CoreText.{Reads, star, name as by_name, form, ReadsPieces, end, bind, part, inner, Stands, ReadsItem, ReadsItems, ReadsFile}
+
+-- ---- the scope that names stand for
+
+abbrev binder_sorts : List Name → List Sort
+binder_sorts [] = []
+binder_sorts (x ∷ xs) = x.sort ∷ binder_sorts xs
+
+-- the items' sorts, the earliest first
+abbrev sorts_in : List Name → List Sort
+sorts_in [] = []
+sorts_in (x ∷ xs) = sorts_in xs ++ (x.sort ∷ [])
+
+abbrev scope_of : Names → Scope
+scope_of names = within (binder_sorts names.binders) (sorts_in names.items)
+
+length_sorts : (xs : List Name) → length (sorts_in xs) ≡ length xs
+length_sorts [] = refl
+length_sorts (x ∷ xs) = omega (arith, length-append (sorts_in xs) (x.sort ∷ []), length_sorts xs)
+
+last_sort : (ys : List Sort) (s : Sort) → slice_get (ys ++ (s ∷ [])) (length ys) ≡ Some s
+last_sort [] s = refl
+last_sort (y ∷ ys) s = last_sort ys s
+
+sort_at_end : (xs : List Name) (s : Sort) → slice_get (sorts_in xs ++ (s ∷ [])) (length xs) ≡ Some s
+sort_at_end xs s = ap (λ n. slice_get (sorts_in xs ++ (s ∷ [])) n) (sym (length_sorts xs)) ∙ last_sort (sorts_in xs) s
+
+earlier_sort : (ys zs : List Sort) (n : ℕ) (s : Sort) → slice_get ys n ≡ Some s → slice_get (ys ++ zs) n ≡ Some s
+earlier_sort [] zs n s h = absurd cc
+earlier_sort (y ∷ ys) zs zero s h = h
+earlier_sort (y ∷ ys) zs (suc n) s h = earlier_sort ys zs n s h
+
+-- the class of a tree that stands for a name of a sort
+abbrev class_of : Sort → TreeClass
+class_of OfTerm = terms
+class_of OfType = types
+
+fits_variable : (vs is : List Sort) (s : Sort) (i : ℕ) → slice_get vs i ≡ Some s → Fits (within vs is) (class_of s) (var i)
+fits_variable vs is OfTerm i h = h
+fits_variable vs is OfType i h = h
+
+fits_name : (vs is : List Sort) (s : Sort) (n : ℕ) → slice_get is n ≡ Some s → Fits (within vs is) (class_of s) (name n)
+fits_name vs is OfTerm n h = h
+fits_name vs is OfType n h = h
+
+abbrev found : Sort → Tree → Option (Sort × Tree)
+found s t = Some (s, t)
+
+-- the parts of what was found
+same_found : (s r : Sort) (t u : Tree) → found s t ≡ found r u → (s ≡ r) × (t ≡ u)
+same_found s r t u e = let p : (s, t) ≡ (r, u) = cc in (ap (λ (x : Sort × Tree). x.0) p, ap (λ (x : Sort × Tree). x.1) p)
+
+binder_at : (n : ℕ) (x : Name) (xs : List Name) (o : Option (Sort × Tree)) (s : Sort) (t : Tree)
+    → (o ≡ found s t → (k : ℕ) × (t ≡ var (n + 1 + k)) × (slice_get (binder_sorts xs) k ≡ Some s)) → (b : Bool) → cond b (found x.sort (var n)) o ≡ found s t
+    → (k : ℕ) × (t ≡ var (n + k)) × (slice_get (x.sort ∷ binder_sorts xs) k ≡ Some s)
+binder_at n x xs o s t others true e = let p = same_found x.sort s (var n) t e in (0, sym p.1 ∙ ap var (omega arith), ap Some p.0)
+binder_at n x xs o s t others false e = let h = others e in (suc h.0, h.1 ∙ ap var (omega arith), h.2)
+
+binder_stands : (w : List ℕ) (n : ℕ) (xs : List Name) (s : Sort) (t : Tree) → binder_of w n xs ≡ found s t → (k : ℕ) × (t ≡ var (n + k)) × (slice_get (binder_sorts xs) k ≡ Some s)
+binder_stands w n [] s t e = absurd cc
+binder_stands w n (x ∷ xs) s t e = binder_at n x xs (binder_of w (n + 1) xs) s t (binder_stands w (n + 1) xs s t) (bytes_eq w x.text) e
+
+item_at : (x : Name) (xs : List Name) (o : Option (Sort × Tree)) (s : Sort) (t : Tree) → (o ≡ found s t → (n : ℕ) × (t ≡ name n) × (slice_get (sorts_in xs) n ≡ Some s))
+    → (b : Bool) → cond b (found x.sort (name (length xs))) o ≡ found s t → (n : ℕ) × (t ≡ name n) × (slice_get (sorts_in xs ++ (x.sort ∷ [])) n ≡ Some s)
+item_at x xs o s t others true e = let p = same_found x.sort s (name (length xs)) t e in (length xs, sym p.1, sort_at_end xs x.sort ∙ ap Some p.0)
+item_at x xs o s t others false e = let h = others e in (h.0, h.1, earlier_sort (sorts_in xs) (x.sort ∷ []) h.0 s h.2)
+
+item_stands : (w : List ℕ) (xs : List Name) (s : Sort) (t : Tree) → item_of w xs ≡ found s t → (n : ℕ) × (t ≡ name n) × (slice_get (sorts_in xs) n ≡ Some s)
+item_stands w [] s t e = absurd cc
+item_stands w (x ∷ xs) s t e = item_at x xs (item_of w xs) s t (item_stands w xs s t) (bytes_eq w x.text) e
+
+-- what is known of a part that is read: it fits its class and its scope, and its forms are the grammar's
+abbrev class_in : Class → TreeClass
+class_in Kind = kinds
+class_in Ty = types
+class_in Term = terms
+
+abbrev HasForms : Class → Tree → Type 0
+HasForms Kind t = t ≡ forms.star
+HasForms Ty t = IsFirstType t
+HasForms Term t = IsFirstTerm t
+
+abbrev IsRead : Names → Class → Tree → Type 0
+IsRead scope c t = Fits (scope_of scope) (class_in c) t × HasForms c t
+
+read_variable : (scope : Names) (c : Class) (s : Sort) (i : ℕ) → names_of c ≡ Some s → Fits (scope_of scope) (class_of s) (var i) → IsRead scope c (var i)
+read_variable scope Kind s i e h = absurd cc
+read_variable scope Ty OfTerm i e h = absurd cc
+read_variable scope Ty OfType i e h = (h, tt)
+read_variable scope Term OfTerm i e h = (h, tt)
+read_variable scope Term OfType i e h = absurd cc
+
+read_name : (scope : Names) (c : Class) (s : Sort) (n : ℕ) → names_of c ≡ Some s → Fits (scope_of scope) (class_of s) (name n) → IsRead scope c (name n)
+read_name scope Kind s n e h = absurd cc
+read_name scope Ty OfTerm n e h = absurd cc
+read_name scope Ty OfType n e h = (h, tt)
+read_name scope Term OfTerm n e h = (h, tt)
+read_name scope Term OfType n e h = absurd cc
+
+word_read : (scope : Names) (c : Class) (s : Sort) (w : List ℕ) (t : Tree) → names_of c ≡ Some s → stands w scope ≡ found s t → IsRead scope c t
+unfolding stands
+word_read scope c s w t n e = of_binder (binder_of w 0 scope.binders) refl e
+  where
+    of_binder : (o : Option (Sort × Tree)) → binder_of w 0 scope.binders ≡ o → or_else o (item_of w scope.items) ≡ found s t → IsRead scope c t
+    of_binder None b e =
+        let h = item_stands w scope.items s t e in
+        subst (IsRead scope c) (sym h.1) (read_name scope c s h.0 n (fits_name (binder_sorts scope.binders) (sorts_in scope.items) s h.0 h.2))
+    of_binder (Some x) b e =
+        let h = binder_stands w 0 scope.binders s t (b ∙ e) in
+        let same : var (0 + h.0) ≡ var h.0 = ap var (omega arith) in
+        subst (IsRead scope c) (sym (h.1 ∙ same)) (read_variable scope c s h.0 n (fits_variable (binder_sorts scope.binders) (sorts_in scope.items) s h.0 h.2))
+
+star_read : (scope : Names) (c : Class) → names_of c ≡ None → IsRead scope c forms.star
+star_read scope Kind e = (tt, refl)
+star_read scope Ty e = absurd cc
+star_read scope Term e = absurd cc
+
+-- ---- forms
+
+-- the parts in their order, each read in the scope of its piece
+abbrev ArePartsRead : Names → Option Name → List Piece → List Tree → Type 0
+ArePartsRead scope binder [] us = us ≡ []
+ArePartsRead scope binder (Binder s ∷ ps) us = (w : List ℕ) × ArePartsRead scope (Some (record { text = w; sort = s })) ps us
+ArePartsRead scope binder (Part c ∷ ps) us = (t : Tree) × (ts : List Tree) × (us ≡ t ∷ ts) × IsRead scope c t × ArePartsRead scope binder ps ts
+ArePartsRead scope binder (Under c ∷ ps) us = (t : Tree) × (ts : List Tree) × (us ≡ t ∷ ts) × IsRead (under binder scope) c t × ArePartsRead scope binder ps ts
+
+two_parts : (us ts vs : List Tree) (a b : Tree) → us ≡ a ∷ ts → ts ≡ b ∷ vs → vs ≡ [] → a ∷ b ∷ [] ≡ us
+two_parts us ts vs a b e f g = cc
+
+form_read : (scope : Names) (f : Form) (us : List Tree) → ArePartsRead scope None (pieces f) us → IsRead scope (class_of_form f) (made f us)
+form_read scope Pi us h =
+    let p = h.1 in
+    let q = p.4 in
+    subst (λ (vs : List Tree). IsRead scope Ty (made Pi vs)) (two_parts us p.1 q.1 p.0 q.0 p.2 q.2 q.4) ((p.3.0, q.3.0), (p.3.1, q.3.1))
+form_read scope Allt us h =
+    let p = h.1 in
+    let q = p.4 in
+    let of_star = subst (λ (k : Tree). Fits (scope_of scope) kinds k → IsRead scope Ty (made Allt (k ∷ q.0 ∷ []))) (sym p.3.1) (λ k. ((k, q.3.0), q.3.1)) in
+    subst (λ (vs : List Tree). IsRead scope Ty (made Allt vs)) (two_parts us p.1 q.1 p.0 q.0 p.2 q.2 q.4) (of_star p.3.0)
+form_read scope Lam us h =
+    let p = h.1 in
+    let q = p.4 in
+    subst (λ (vs : List Tree). IsRead scope Term (made Lam vs)) (two_parts us p.1 q.1 p.0 q.0 p.2 q.2 q.4) ((p.3.0, q.3.0), (p.3.1, q.3.1))
+form_read scope Xlam us h =
+    let p = h.1 in
+    let q = p.4 in
+    let of_star = subst (λ (k : Tree). Fits (scope_of scope) kinds k → IsRead scope Term (made Xlam (k ∷ q.0 ∷ []))) (sym p.3.1) (λ k. ((k, q.3.0), q.3.1)) in
+    subst (λ (vs : List Tree). IsRead scope Term (made Xlam vs)) (two_parts us p.1 q.1 p.0 q.0 p.2 q.2 q.4) (of_star p.3.0)
+
+-- the table of a class has forms of that class alone
+abbrev AreOfClass : Class → List (List ℕ × Form) → Type 0
+AreOfClass c [] = Unit {0}
+AreOfClass c (e ∷ es) = (class_of_form e.1 ≡ c) × AreOfClass c es
+
+table_class : (c : Class) → AreOfClass c (form_words c)
+table_class Kind = tt
+table_class Ty = (refl, (refl, tt))
+table_class Term = (refl, (refl, tt))
+
+row_or_later : (c : Class) (g f : Form) (o : Option Form) → class_of_form g ≡ c → (o ≡ Some f → class_of_form f ≡ c) → (b : Bool) → cond b (Some g) o ≡ Some f → class_of_form f ≡ c
+row_or_later c g f o here others true e = let same : g ≡ f = cc in ap class_of_form (sym same) ∙ here
+row_or_later c g f o here others false e = others e
+
+row_class : (c : Class) (w : List ℕ) (es : List (List ℕ × Form)) (f : Form) → AreOfClass c es → look_up w es ≡ Some f → class_of_form f ≡ c
+row_class c w [] f all e = absurd cc
+row_class c w (x ∷ es) f all e = row_or_later c x.1 f (look_up w es) all.0 (row_class c w es f all.1) (bytes_eq w x.0) e
+
+mutual
+  part_read : {left : ℕ} {scope : Names} {c : Class} {ts : List Token} {t : Tree} {rest : List Token} → Reads Stands left scope c ts t rest → IsRead scope c t
+  part_read {scope = scope} {c} (star n e) = star_read scope c n
+  part_read {scope = scope} {c} {t = t} (by_name {s = s} {w = w} n e h) = word_read scope c s w t n h
+  part_read {scope = scope} {c} (form {w = w} {f = f} {us = us} e h) = subst (λ (d : Class). IsRead scope d (made f us)) (row_class c w (form_words c) f (table_class c) e) (form_read scope f us (parts_read h))
+
+  parts_read : {left : ℕ} {scope : Names} {binder : Option Name} {ps : List Piece} {ts : List Token} {us : List Tree} {rest : List Token} → ReadsPieces Stands left scope binder ps ts us rest → ArePartsRead scope binder ps us
+  parts_read end = refl
+  parts_read (bind {w = w} e h) = (w, parts_read h)
+  parts_read (part {t = t} {us = us} h g) = (t, us, refl, part_read h, parts_read g)
+  parts_read (inner {t = t} {us = us} h g) = (t, us, refl, part_read h, parts_read g)
+
+-- ---- items
+
+sorts_more : (es : List Written) (w : Written) → item_sorts (es ++ (w ∷ [])) ≡ item_sorts es ++ (item_sort w ∷ [])
+sorts_more [] w = refl
+sorts_more (e ∷ es) w = ap (λ (xs : List Sort). item_sort e ∷ xs) (sorts_more es w)
+
+-- the sorts of names are those of these items
+abbrev AreOf : List Name → List Written → Type 0
+AreOf known es = sorts_in known ≡ item_sorts es
+
+with_item_of : (known : List Name) (es : List Written) (w : Written) → AreOf known es → AreOf (with_item w known) (es ++ (w ∷ []))
+with_item_of known es w e = ap (λ (xs : List Sort). xs ++ (item_sort w ∷ [])) e ∙ sym (sorts_more es w)
+
+with_items_of : (known : List Name) (es ws : List Written) → AreOf known es → AreOf (with_items ws known) (es ++ ws)
+with_items_of known es [] e = e ∙ ap item_sorts (sym (append-nil es))
+with_items_of known es (w ∷ ws) e = with_items_of (with_item w known) (es ++ (w ∷ [])) ws (with_item_of known es w e) ∙ ap item_sorts (append_assoc es (w ∷ []) ws)
+
+only_terms : (b : Bool) → cond b (Some OfTerm) None ≡ Some OfType → ⊥
+only_terms true e = cc
+only_terms false e = cc
+
+same_parts : (a b c d : Tree) (us vs : List Tree) → a ∷ b ∷ [] ≡ c ∷ us → us ≡ d ∷ vs → (c ≡ a) × (d ≡ b)
+same_parts a b c d us vs e f = (cc, cc)
+
+item_read : (left : ℕ) (known : List Name) (ts : List Token) (i : Written) (rest : List Token) (es : List Written) → AreOf known es → ReadsItem Stands left known ts i rest → IsOver es i × IsFirstItem i
+item_read left known ts (def_item x a t) rest es e h =
+    let p = parts_read h.parts in
+    let q = p.4 in
+    let same = same_parts a t p.0 q.0 p.1 q.1 p.2 q.2 in
+    let ty = subst (IsRead (behind known) Ty) same.0 p.3 in
+    let term = subst (IsRead (behind known) Term) same.1 q.3 in
+    let over = subst (λ (xs : List Sort). Fits (within [] xs) types a × Fits (within [] xs) terms t) e (ty.0, term.0) in
+    (over, (ty.1, term.1))
+item_read left known ts (type_item x k a) rest es e h = absurd (only_terms _ h.form)
+
+items_read : (left : ℕ) (known : List Name) (ts : List Token) (es ws : List Written) → AreOf known es → ReadsItems Stands left known ts ws → AreOver es ws × AreFirstItems ws
+items_read left known ts es [] e h = (tt, tt)
+items_read left known ts es (w ∷ ws) e h =
+    let here = item_read left known ts w h.0 es e h.1 in
+    let others = items_read left (with_item w known) h.0 (es ++ (w ∷ [])) ws (with_item_of known es w e) h.2 in
+    ((here.0, others.0), (here.1, others.1))
+
+-- what a text says behind items is over these, in the grammar's forms
+pub file_read : (left : ℕ) (ts : List Token) (es ws : List Written) → ReadsFile Stands left (with_items es []) ts ws → AreOver es ws × AreFirstItems ws
+file_read left ts es ws h = items_read left (with_items es []) h.body es ws (with_items_of [] [] es refl) h.items
