@@ -35,3 +35,6 @@ pub mod Inversion
 pub mod CheckSteps
 pub mod TreeChecked
 pub mod ItemsChecked
+pub mod LargerBudget
+pub mod CheckLargerBudget
+pub mod Undecided
