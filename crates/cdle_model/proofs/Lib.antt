@@ -38,3 +38,5 @@ pub mod ItemsChecked
 pub mod LargerBudget
 pub mod CheckLargerBudget
 pub mod Undecided
+pub mod ClassSubstitution
+pub mod ClassErasure

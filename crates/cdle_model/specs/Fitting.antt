@@ -15,12 +15,13 @@ IsErased guides = Unit {0}
 IsErased guide_kinds = Unit {0}
 IsErased c = ⊥
 
--- the class of the erasure of a tree
+-- the class of the erasure of a tree of this class
 abbrev pub erased_class : TreeClass → TreeClass
-erased_class terms = pure_terms
 erased_class types = guides
+erased_class guides = guides
 erased_class kinds = guide_kinds
-erased_class c = c
+erased_class guide_kinds = guide_kinds
+erased_class c = pure_terms
 
 -- the class of what may stand in an erased tree for a variable or a name
 abbrev pub class_of : Sort → TreeClass
