@@ -38,7 +38,7 @@ step_under-none c q (to p) e = absurd (grind arith)
 step_under-none c q (blocked z) e = absurd (grind arith)
 
 -- what is applied in a head form is a head form, and no pure function
-app-value : (s : List Tree) (c : Function) (p q : Tree) → head_step s (apply c p q) ≡ none → (head_step s p ≡ none) × (function_of p ≡ None)
+pub app-value : (s : List Tree) (c : Function) (p q : Tree) → head_step s (apply c p q) ≡ none → (head_step s p ≡ none) × (function_of p ≡ None)
 app-value s c (fun d p) q e = (refl, (fun-none s c d p q p q e).1)
 app-value s c (var i) q e = (refl, refl)
 app-value s c (name n) q e = (step_under-none c q _ e, refl)

@@ -40,3 +40,4 @@ pub mod CheckLargerBudget
 pub mod Undecided
 pub mod ClassSubstitution
 pub mod ClassErasure
+pub mod ClassSteps
