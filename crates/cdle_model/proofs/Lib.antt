@@ -41,3 +41,5 @@ pub mod Undecided
 pub mod ClassSubstitution
 pub mod ClassErasure
 pub mod ClassSteps
+pub mod ClassChecked
+pub mod ClassItems
