@@ -92,7 +92,8 @@ fits-unren zs r vs us w c (apply f p q) h = map_parts (apply_places c f) _ _ _ _
 fits-unren zs r vs us w c (binary j p q) h = map_parts (binary_places c j) _ _ _ _ (λ x. fits-unren zs r vs us w x p) (λ x. fits-unren zs r vs us w x q) h
 fits-unren zs r vs us w c (bind f p q) h = map_domain (bind_places c f) _ _ _ _ (λ x. fits-unren zs r vs us w x p) (λ v x. fits-unren zs (up r) (v ∷ vs) (v ∷ us) (leaves-up r vs us v w) x q) h
 
+pub fits-unshift : (zs vs : List Sort) (y : Sort) (c : TreeClass) (e : Tree) → Fits (within (y ∷ vs) zs) c (shift 0 1 e) → Fits (within vs zs) c e
+fits-unshift zs vs y c e h = fits-unren zs suc vs (y ∷ vs) (λ j x g. g) c e (subst (Fits (within (y ∷ vs) zs) c) (shift-one e) h)
+
 pub fits-lowered : (zs vs : List Sort) (y : Sort) (c : TreeClass) (e : Tree) → lacks 0 e ≡ true → Fits (within (y ∷ vs) zs) c e → Fits (within vs zs) c (put 0 (leaf star_of) e)
-fits-lowered zs vs y c e i h =
-    let k : e ≡ ren suc (put 0 (leaf star_of) e) = lacks-raised 0 e i ∙ shift-one (put 0 (leaf star_of) e) in
-    fits-unren zs suc vs (y ∷ vs) (λ j x g. g) c (put 0 (leaf star_of) e) (subst (Fits (within (y ∷ vs) zs) c) k h)
+fits-lowered zs vs y c e i h = fits-unshift zs vs y c (put 0 (leaf star_of) e) (subst (Fits (within (y ∷ vs) zs) c) (lacks-raised 0 (leaf star_of) e i) h)

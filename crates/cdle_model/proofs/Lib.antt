@@ -43,3 +43,4 @@ pub mod ClassErasure
 pub mod ClassSteps
 pub mod ClassChecked
 pub mod ClassItems
+pub mod ClassKept
