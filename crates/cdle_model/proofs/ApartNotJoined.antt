@@ -153,7 +153,7 @@ heads-joined s g a b h e f e' f' =
 -- two pure functions, or one and another form
 module _ (s : List Tree) (g : IsSignature s) where
   applied-joined : {a b : Tree} → Joined s a b → Joined s (applied a) (applied b)
-  applied-joined h = joined_apply (joined-shift s g h) end
+  applied-joined h = joined_apply (joined-shift s g 0 1 h) end
 
   applied-fun : (p : Tree) → Joined s (applied (fun of_pure p)) p
   applied-fun p = subst (Joined s (applied (fun of_pure p))) (put-up {p = shift 1 1 p} (rw (shift-up p) (is_ren (up suc) p))) (forth (here (inl contract)) end)

@@ -44,3 +44,4 @@ pub mod ClassSteps
 pub mod ClassChecked
 pub mod ClassItems
 pub mod ClassKept
+pub mod Examples

@@ -7,7 +7,7 @@ use Rattle.cdle_model.specs.Steps.{end, Joined}
 use Rattle.cdle_model.specs.Derivation.{Entry, term_of, type_of, entry, Item, bodies, item, Judgement, a_term, a_type, a_kind, true_pure, false_pure, var_term, name_term, lam_rule, elam_rule, xlam_rule, app_rule, eapp_rule, tapp_rule, pair_rule, fst_rule, snd_rule, beta_rule, rho_rule, phi_rule, delta_rule, var_type, name_type, pi_rule, all_rule, iota_rule, allt_rule, tlam_rule, xtlam_rule, at_rule, on_rule, eq_rule, star_rule, kpi_rule, kpit_rule, Has, by_rule, converted}
 use Rattle.cdle_model.specs.Check.{Reason, erased_use, Questions, finds, refuse, ask_same, at_part, then, with_binder, with_equation, unless_deep, limited, star_then, found_term, found_type, infer}
 use Rattle.cdle_model.proofs.Rewriting.{linked-join, linked-turn}
-use Rattle.cdle_model.proofs.Equality.{joined-part}
+use Rattle.cdle_model.proofs.Equality.{joined-put}
 use Rattle.cdle_model.proofs.UniqueTypes.{SameContext, bind-parts, two-parts, unique}
 use Rattle.cdle_model.proofs.Signatures.{ClosedItems}
 use Rattle.cdle_model.proofs.SubstitutedDerivations.{has-same}
@@ -133,10 +133,10 @@ module _ (is : List Item) (g' : ClosedItems is) where
   told a_term c (rho q g a t) = told-equation c 1 q (rho q g a t) _ _ _ _ (told a_term c q) (λ b h. let (x, y, d, e, k, l) = in_rho h in (x, y, d))
       (λ x y hq. told-star a_term c c (rho q g a t) a 3 _ _ (told a_type c a) (λ no b h. no (in_rho h).3)
       (λ ha. told-deep a_term c (rho q g a t) (put 0 x g) _ (told-same a_term c (rho q g a t) (erased a) (put 0 x g)
-      (λ no b h. let (x1, y1, d, e, k, l) = in_rho h in no (linked-join k (joined-part (bodies is) g'.signed_bodies g (two-parts is g'.signed_bodies (uniq c d hq)).0)))
+      (λ no b h. let (x1, y1, d, e, k, l) = in_rho h in no (linked-join k (joined-put (bodies is) g'.signed_bodies 0 {p = g} (two-parts is g'.signed_bodies (uniq c d hq)).0 end)))
       (λ a-is. told-then a_term a_term c c t (rho q g a t) 4 _ _ (told a_term c t) (λ no b h. no _ (in_rho h).5)
       (λ d hd. told-deep a_term c (rho q g a t) (put 0 y g) _ (told-same a_term c (rho q g a t) d (put 0 y g)
-      (λ no b h. let (x1, y1, e, e', k, l) = in_rho h in no (linked-join (uniq c hd l) (joined-part (bodies is) g'.signed_bodies g (two-parts is g'.signed_bodies (uniq c e hq)).1)))
+      (λ no b h. let (x1, y1, e, e', k, l) = in_rho h in no (linked-join (uniq c hd l) (joined-put (bodies is) g'.signed_bodies 0 {p = g} (two-parts is g'.signed_bodies (uniq c e hq)).1 end)))
       (λ d-is. told-limited a_term c (rho q g a t) (erased a) (by_rule (rho_rule hq ha a-is (converted hd d-is))))))))))
   told a_term c (phi q t p) = told-equation c 1 q (phi q t p) _ _ _ _ (told a_term c q) (λ b h. let (x, y, z, d, e, k, l) = in_phi h in (x, y, d))
       (λ x y hq. told-then a_term a_term c c t (phi q t p) 2 _ _ (told a_term c t) (λ no b h. no _ (in_phi h).4)

@@ -21,15 +21,9 @@ identity_type = allt star (pi (var 0) (var 1))
 abbrev pub identity : List Written
 identity = named identity_type (xlam star (lam (var 0) (var 0))) ∷ []
 
--- (type T * (allt X * (pi x X X)))  (def a T (xlam X * (lam x X x))), and the first of them twice
-abbrev type_of_identity : Written
-type_of_identity = type_item (84 ∷ []) star identity_type
-
-abbrev pub two_files : List Written
-two_files = type_of_identity ∷ named (name 0) (xlam star (lam (var 0) (var 0))) ∷ []
-
+-- (type T * (allt X * (pi x X X))), twice
 abbrev pub repeated_file : List Written
-repeated_file = type_of_identity ∷ type_of_identity ∷ []
+repeated_file = type_item (84 ∷ []) star identity_type ∷ type_item (84 ∷ []) star identity_type ∷ []
 
 -- (def a (allt X * (all x X X)) (xlam X * (elam x X x)))
 abbrev pub erased_variable_used : List Written
@@ -114,18 +108,3 @@ doubled (suc k) x = on (name 0) (doubled k x)
 abbrev pub doubled_type : ℕ → List Written
 doubled_type k = type_item (68 ∷ []) (kpit star star) (xtlam star (pi (var 0) (var 1)))
     ∷ named (allt star (pi (doubled k (var 0)) (doubled k (var 1)))) (xlam star (lam (doubled k (var 0)) (var 0))) ∷ []
-
--- T0 is (fn y y) and T(k+1) is (ap (fn x (ap x x)) Tk): (def a (eq Tk (fn y y)) (beta (fn y y) (fn y y)))
-abbrev tower_pure : ℕ → Tree
-tower_pure zero = identity_pure
-tower_pure (suc k) = ap (fn (ap (var 0) (var 0))) (tower_pure k)
-
-abbrev pub tower : ℕ → List Written
-tower k = named (eq (tower_pure k) identity_pure) (beta identity_pure identity_pure) ∷ []
-
--- W is (fn x (fn a (ap (ap x x) (ap (fn y y) a)))): (def a (eq (ap (ap W W) (fn z z)) (fn x x)) (beta (fn x x) (fn x x)))
-abbrev w_pure : Tree
-w_pure = fn (fn (ap (ap (var 1) (var 1)) (ap identity_pure (var 0))))
-
-abbrev pub growing : List Written
-growing = named (eq (ap (ap w_pure w_pure) identity_pure) identity_pure) (beta identity_pure identity_pure) ∷ []

@@ -3,6 +3,7 @@ pub mod Forms
 pub mod Depth
 pub mod Classes
 pub mod Erasure
+pub mod Substitution
 pub mod Steps
 pub mod Derivation
 pub mod Machine
