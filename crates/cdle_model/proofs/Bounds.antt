@@ -1,6 +1,6 @@
 -- Bounds on the numbers of variables.
-use Rattle.std.proofs.Common.{◌≡◌, ℕ, suc, ◌+◌, ◌<◌, ◌≤◌, arith}
-use Rattle.cdle_model.specs.Trees.{Tree, var, name, leaf, unary, fun, apply, binary, bind, IsBelow}
+use Rattle.std.proofs.Common.{ℕ, suc, ◌+◌, ◌≤◌, arith}
+use Rattle.cdle_model.specs.Trees.{Tree, var, name, IsBelow}
 use Rattle.cdle_model.specs.Forms.{star, kpi, kpit, pi, all, allt, at_, on, iota, eq, guide_tlam, guide_xtlam, fn, ap}
 use Rattle.cdle_model.specs.Depth.{depth, ShiftFits}
 use Rattle.cdle_model.specs.Classes.{TreeClass, terms, types, kinds, pure_terms, guides, guide_kinds, term_pairs, guided_proofs, typed_terms, IsOf}

@@ -3,7 +3,7 @@ use Rattle.std.proofs.Common.{◌≡◌, ℕ, suc, Bool, true, false, cond, eqb,
 use Rattle.cdle_model.specs.declared.grammar.Sort.{Sort}
 use Rattle.cdle_model.specs.declared.grammar.Sort.TheVariants.{OfTerm, OfType}
 use Rattle.cdle_model.specs.Trees.{of_pure, of_term, of_type, group_of, rho_of, phi_of, pi_of, all_of, allt_of, iota_of, kpi_of, kpit_of, pair_of, guide_of, Tree, var, name, leaf, unary, fun, apply, binary, bind, lacks}
-use Rattle.cdle_model.specs.Forms.{star, kpi, kpit, pi, all, allt, at_, on, iota, eq, tlam, xtlam, fn, ap, lam, elam, xlam, app, eapp, tapp, fst, snd, beta, delta}
+use Rattle.cdle_model.specs.Forms.{star, kpi, kpit, pi, all, allt, at_, on, iota, eq, tlam, xtlam, fn, lam, elam, xlam, app, eapp, tapp, fst, snd, beta, delta}
 use Rattle.cdle_model.specs.Classes.{TreeClass, terms, types, kinds, pure_terms, guides, guide_kinds, term_pairs, guided_proofs, typed_terms, Scope, within, under, fun_places, apply_places, binary_places, Fits, UsedAs}
 use Rattle.cdle_model.specs.Erasure.{erased, HasErasure}
 use Rattle.cdle_model.specs.Fitting.{IsErased, erased_class}

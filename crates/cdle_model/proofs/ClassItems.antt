@@ -1,5 +1,5 @@
 -- The plain check of a list of items that are of their classes never ends as ill classed.
-use Rattle.std.proofs.Common.{◌≡◌, ◌⊎◌, inl, inr, ℕ, zero, suc, List, [], ◌∷◌, ◌++◌, length, Option, Some, None, slice_get, option_map, refl, sym, ap, ◌∙◌, subst, arith}
+use Rattle.std.proofs.Common.{◌≡◌, ◌⊎◌, inl, inr, ℕ, List, [], ◌∷◌, ◌++◌, length, Option, Some, None, slice_get, option_map, refl, sym, ◌∙◌, subst, arith}
 use Rattle.std.proofs.lemmas.List.{append_assoc, append-nil}
 use Rattle.cdle_model.specs.declared.grammar.Sort.{Sort}
 use Rattle.cdle_model.specs.declared.grammar.Sort.TheVariants.{OfTerm, OfType}
@@ -12,19 +12,11 @@ use Rattle.cdle_model.specs.Derivation.{Entry, term_of, type_of, Item, bodies, a
 use Rattle.cdle_model.specs.Fitting.{class_of, ItemHasErasures, HaveErasures, EntryFits, SignatureFits}
 use Rattle.cdle_model.specs.FirstCheck.{first_of}
 use Rattle.cdle_model.specs.Check.{Finding, gives, refused, spent_at, halts, infer_item, ListVerdict, accepts, ends, by_name, by_finding, check_item, check_after, check_items}
-use Rattle.cdle_model.proofs.Signatures.{AreClosed, body-get, closed-items, get-snoc, length-sorts, signature-snoc, closed-more, closed-none}
+use Rattle.cdle_model.proofs.Lists.{get-left, get-last, get-snoc, length-sorts, sorts-snoc, signature-snoc}
+use Rattle.cdle_model.proofs.Signatures.{AreClosed, body-get, closed-items, closed-more, closed-none}
 use Rattle.cdle_model.proofs.ClassSubstitution.{Leads, fits-closed}
 use Rattle.cdle_model.proofs.ClassErasure.{erased-fits}
 use Rattle.cdle_model.proofs.ClassChecked.{FindingSound, Sound, sound-then, answer-sound, sound-same, sound-star, sound}
-
-get-left : {A : Type 0} (xs ys : List A) (n : ℕ) (x : A) → slice_get xs n ≡ Some x → slice_get (xs ++ ys) n ≡ Some x
-get-left [] ys n x e = absurd (grind arith)
-get-left (y ∷ xs) ys zero x e = e
-get-left (y ∷ xs) ys (suc n) x e = get-left xs ys n x e
-
-get-last : {A : Type 0} (xs : List A) (x : A) → slice_get (xs ++ (x ∷ [])) (length xs) ≡ Some x
-get-last [] x = refl
-get-last (y ∷ xs) x = get-last xs x
 
 -- an item is of the sort of its name
 abbrev ItemFits : List Sort → Sort → Item → Type 0
@@ -59,10 +51,6 @@ sorted-snoc zs is y i l h k n x e = by_cases (get-snoc zs y x n e)
     by_cases (inr u) =
         let e : n ≡ length is = u.0 ∙ l in
         (i, rw e (get-last is i), rw (← u.1) (item-more zs (zs ++ (y ∷ [])) y i (get-left zs (y ∷ [])) k))
-
-sorts-snoc : (es : List Written) (w : Written) → item_sorts (es ++ (w ∷ [])) ≡ item_sorts es ++ (item_sort w ∷ [])
-sorts-snoc [] w = refl
-sorts-snoc (v ∷ es) w = ap (◌∷◌ (item_sort v)) (sorts-snoc es w)
 
 item-fits : (zs : List Sort) (es : List Written) (w : Written) → zs ≡ item_sorts es → IsOver es w → ItemHasErasures w → ItemFits zs (item_sort w) (signed w)
 item-fits zs es (def_item x a t) e h k = rw e (erased-fits (item_sorts es) [] types a h.0 k.0, erased-fits (item_sorts es) [] terms t h.1 k.1)

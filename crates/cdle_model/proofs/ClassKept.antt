@@ -1,12 +1,12 @@
 -- A step keeps the class of an erased tree, and where its variables and names are used.
-use Rattle.std.proofs.Common.{◌≡◌, inl, inr, List, [], ◌∷◌, slice_get, sym, ap, ◌∙◌, subst}
+use Rattle.std.proofs.Common.{inl, inr, List, ◌∷◌, subst}
 use Rattle.cdle_model.specs.declared.grammar.Sort.{Sort}
 use Rattle.cdle_model.specs.declared.grammar.Sort.TheVariants.{OfTerm, OfType}
-use Rattle.cdle_model.specs.Trees.{Function, of_pure, of_term, of_type, Tree, name, fun, apply, binary, bind, put, shift, var}
-use Rattle.cdle_model.specs.Classes.{TreeClass, terms, types, kinds, pure_terms, guides, guide_kinds, within, unary_places, fun_places, apply_places, binary_places, bind_places, Fits}
+use Rattle.cdle_model.specs.Trees.{Function, of_pure, of_term, of_type, Tree, fun, apply, put, shift, var}
+use Rattle.cdle_model.specs.Classes.{TreeClass, types, pure_terms, guides, within, fun_places, apply_places, binary_places, bind_places, Fits}
 use Rattle.cdle_model.specs.Steps.{contract, unfold_name, eta, here, in_fun, in_head, in_arg, in_domain, in_body, in_unary, in_left, in_right, Root, Step}
 use Rattle.cdle_model.specs.Fitting.{IsErased, BodiesFit}
-use Rattle.cdle_model.proofs.Placed.{map_part, map_body, map_parts, map_domain, sort_erased, no_unary, fun_erased, apply_erased, binary_erased, bind_erased}
+use Rattle.cdle_model.proofs.Placed.{map_body, map_parts, map_domain, sort_erased, no_unary, fun_erased, apply_erased, binary_erased, bind_erased}
 use Rattle.cdle_model.proofs.ClassSubstitution.{fits-put, fits-closed, fits-unshift}
 
 contract-fits : (zs vs : List Sort) (c : TreeClass) (f : Function) (p q : Tree) → IsErased c → Fits (within vs zs) c (apply f (fun f p) q) → Fits (within vs zs) c (put 0 q p)

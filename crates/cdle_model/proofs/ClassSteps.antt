@@ -4,7 +4,7 @@ use Rattle.cdle_model.specs.declared.grammar.Sort.{Sort}
 use Rattle.cdle_model.specs.declared.grammar.Sort.TheVariants.{OfTerm, OfType}
 use Rattle.cdle_model.specs.Trees.{Function, of_pure, of_term, of_type, Binary, Binder, Tree, var, name, leaf, unary, fun, apply, binary, bind, put}
 use Rattle.cdle_model.specs.Depth.{depth}
-use Rattle.cdle_model.specs.Classes.{TreeClass, terms, types, kinds, pure_terms, guides, guide_kinds, within, fun_places, apply_places, binary_places, bind_places, Fits}
+use Rattle.cdle_model.specs.Classes.{TreeClass, pure_terms, guides, guide_kinds, within, fun_places, apply_places, binary_places, bind_places, Fits}
 use Rattle.cdle_model.specs.Machine.{Move, stop, go, Outcome, answered, spent, run}
 use Rattle.cdle_model.specs.HeadForms.{Halt, deep, deepest, HeadStep, none, to, blocked, contraction, unfolding_of, step_under, head_step, at, fallen, HeadAnswer, value, no_value, head_move, head_form}
 use Rattle.cdle_model.specs.Comparison.{Head, variable, constant, argument, stuck, applied_head, head_of, parts_by, parts_of, Pair, pairs_of, function_of, applied, Split, into, differ, unsorted, same_heads, against, split_by, split, Answer, halted, State, pairs, taken, past, same_name, move_pairs, move_split, move_taken, move, compare}

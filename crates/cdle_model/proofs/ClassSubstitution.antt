@@ -1,5 +1,5 @@
 -- Trees under renaming, and erased trees under substitution, stay in their class, where each variable is replaced by one, or by a tree, of its sort.
-use Rattle.std.proofs.Common.{◌≡◌, ℕ, zero, suc, true, List, [], ◌∷◌, Some, slice_get, ap, ◌∙◌, subst, arith}
+use Rattle.std.proofs.Common.{◌≡◌, ℕ, zero, suc, true, List, [], ◌∷◌, Some, slice_get, subst, arith}
 use Rattle.cdle_model.specs.declared.grammar.Sort.{Sort}
 use Rattle.cdle_model.specs.declared.grammar.Sort.TheVariants.{OfTerm, OfType}
 use Rattle.cdle_model.specs.Trees.{star_of, Tree, var, name, leaf, unary, fun, apply, binary, bind, shift, put, lacks}
@@ -11,10 +11,6 @@ use Rattle.cdle_model.proofs.Shifts.{shift-one, put-one}
 use Rattle.cdle_model.proofs.MissingVariable.{lacks-raised}
 use Rattle.cdle_model.proofs.Closed.{ren-closed}
 use Rattle.cdle_model.proofs.ScopedTrees.{fits-inner}
-
-pub class_of-erased : (x : Sort) → IsErased (class_of x)
-class_of-erased OfTerm = tt
-class_of-erased OfType = tt
 
 -- each variable or name leads to one of its sort
 abbrev pub Leads : (ℕ → ℕ) → List Sort → List Sort → Type 0

@@ -1,7 +1,5 @@
 -- The plain check of a list of items: what it accepts has a derivation, and the items up to one that it refuses have none.
-use Rattle.std.proofs.Common.{◌≡◌, ℕ, zero, suc, ◌+◌, Bool, true, false, cond, Decides, List, [], ◌∷◌, ◌++◌, length, take, Option, Some, None, option_map, refl, sym, ◌∙◌, subst, arith}
-use Rattle.std.specs.Str.{bytes_eq}
-use Rattle.std.proofs.lemmas.Slice.Eq.{bytes_eq-Decides}
+use Rattle.std.proofs.Common.{◌≡◌, ℕ, zero, suc, ◌+◌, List, [], ◌∷◌, ◌++◌, length, take, Option, Some, None, ◌∙◌, subst, arith}
 use Rattle.std.proofs.lemmas.List.{length-append}
 use Rattle.cdle_model.specs.Trees.{Tree}
 use Rattle.cdle_model.specs.Forms.{star, Written, def_item, type_item, name_of}
@@ -12,24 +10,10 @@ use Rattle.cdle_model.specs.Derivation.{Item, bodies, Judgement, a_term, a_type,
 use Rattle.cdle_model.specs.FirstCheck.{first_of}
 use Rattle.cdle_model.specs.Check.{Reason, wrong_kind, mismatch, Finding, gives, refused, spent_at, halts, Questions, finds, ask_same, at_part, then, infer, infer_item, ListVerdict, accepts, refuses, spends, ends, duplicate, by_name, by_finding, check_item, check_after, check_items}
 use Rattle.cdle_model.proofs.Signatures.{ClosedItems, AreClosed, closed-items, closed-more, closed-none}
+use Rattle.cdle_model.proofs.NewNames.{NameTells, name-tells}
 use Rattle.cdle_model.proofs.Inversion.{kind-star}
-use Rattle.cdle_model.proofs.CheckSteps.{FindingTells, Tells, tells-part, tells-then, true-false, answer-tells}
+use Rattle.cdle_model.proofs.CheckSteps.{FindingTells, Tells, tells-part, tells-then, answer-tells}
 use Rattle.cdle_model.proofs.TreeChecked.{uniq, told}
-
--- a name is new, or is not
-NameTells : List ℕ → List Written → Option ℕ → Type 0
-NameTells x es (Some e) = IsNew x es → ⊥
-NameTells x es None = IsNew x es
-
-name-tells : (x : List ℕ) (es : List Written) → NameTells x es (first_of x es)
-unfolding NameTells
-name-tells x [] = tt
-name-tells x (w ∷ es) = by_test (bytes_eq (name_of w) x) (bytes_eq-Decides (name_of w) x) (first_of x es) (name-tells x es)
-  where
-    by_test : (b : Bool) → Decides b (name_of w ≡ x) → (o : Option ℕ) → NameTells x es o → NameTells x (w ∷ es) (cond b (Some 0) (option_map suc o))
-    by_test true e o h = λ k. k.0 (e.0 refl)
-    by_test false e (Some i) h = λ k. h k.1
-    by_test false e None h = ((λ i. true-false (e.1 i)), h)
 
 -- one item
 module _ (is : List Item) (g : ClosedItems is) where
@@ -83,7 +67,6 @@ told-finding es ws w (spent_at p) v x h k = tt
 told-finding es ws w (halts z) v x h k = tt
 
 told-after : (n : ℕ) (es ws : List Written) → AreClosed (signature es) → AreOver es ws → ListTold es ws (check_after n es ws)
-unfolding NameTells
 told-after n es [] g h = tt
 told-after n es (w ∷ ws) g h = by_new (λ x. told-after n (es ++ (w ∷ [])) ws x h.1) (first_of (name_of w) es) (name-tells (name_of w) es)
   where

@@ -1,3 +1,5 @@
+pub mod Lists
+pub mod NewNames
 pub mod Trees
 pub mod Bounds
 pub mod Placed

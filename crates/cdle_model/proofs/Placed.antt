@@ -4,7 +4,7 @@ use Rattle.std.proofs.Common.{◌≡◌, refl}
 use Rattle.cdle_model.specs.declared.grammar.Sort.{Sort}
 use Rattle.cdle_model.specs.declared.grammar.Sort.TheVariants.{OfTerm, OfType}
 use Rattle.cdle_model.specs.Trees.{of_pure, of_term, of_type, eq_of, pi_of, all_of, allt_of, iota_of, kpi_of, kpit_of, Unary, Binary, Function, Binder}
-use Rattle.cdle_model.specs.Classes.{TreeClass, terms, types, kinds, pure_terms, guides, guide_kinds, term_pairs, guided_proofs, typed_terms, Places, nowhere, part, body, parts, domain, AsSort, AsPart, AsBody, AsParts, AsDomain, unary_places, fun_places, apply_places, binary_places, bind_places}
+use Rattle.cdle_model.specs.Classes.{TreeClass, terms, types, kinds, pure_terms, guides, guide_kinds, term_pairs, guided_proofs, typed_terms, Places, part, body, parts, domain, AsSort, AsPart, AsBody, AsParts, AsDomain, unary_places, fun_places, apply_places, binary_places, bind_places}
 use Rattle.cdle_model.specs.Fitting.{IsErased, class_of}
 
 -- ---- from one statement to another

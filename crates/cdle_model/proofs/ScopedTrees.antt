@@ -1,8 +1,8 @@
 -- A tree that fits a scope has its free variables and names there, and so has its erasure.
 use Rattle.std.proofs.Common.{◌≡◌, ℕ, suc, ◌≤◌, ◌<◌, Bool, true, false, cond, ltb, eqb, pred, List, ◌∷◌, length, refl, arith}
 use Rattle.std.proofs.lemmas.Option.{slice_get_within}
-use Rattle.cdle_model.specs.Trees.{of_pure, group_of, rho_of, phi_of, pair_of, guide_of, Tree, var, name, leaf, unary, fun, apply, binary, bind, put_var, put, IsBelow, NamesBelow}
-use Rattle.cdle_model.specs.Forms.{star, kpi, kpit, pi, all, allt, at_, on, iota, eq, tlam, xtlam, guide_tlam, guide_xtlam, fn, lam, elam, xlam, app, eapp, tapp, pair, fst, snd, beta, rho, phi, delta}
+use Rattle.cdle_model.specs.Trees.{group_of, rho_of, phi_of, pair_of, guide_of, Tree, var, name, leaf, unary, fun, apply, binary, bind, put_var, put, IsBelow, NamesBelow}
+use Rattle.cdle_model.specs.Forms.{star, kpi, kpit, pi, all, allt, at_, on, iota, tlam, xtlam, lam, elam, xlam, app, eapp, tapp, fst, snd, beta, delta}
 use Rattle.cdle_model.specs.declared.grammar.Sort.{Sort}
 use Rattle.cdle_model.specs.Classes.{TreeClass, within, unary_places, fun_places, apply_places, binary_places, bind_places, Fits}
 use Rattle.cdle_model.proofs.Placed.{sort_to, part_to, body_to, parts_to, domain_to}

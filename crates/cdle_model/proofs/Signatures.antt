@@ -1,11 +1,12 @@
 -- The signature of a list of items is closed.
-use Rattle.std.proofs.Common.{◌≡◌, ◌⊎◌, inl, inr, ℕ, zero, suc, List, [], ◌∷◌, ◌++◌, length, Option, Some, None, slice_get, option_map, refl, ap, subst, arith}
+use Rattle.std.proofs.Common.{◌≡◌, ◌⊎◌, inl, inr, ℕ, zero, suc, List, [], ◌∷◌, ◌++◌, length, Option, Some, None, slice_get, option_map, refl, subst, arith}
 use Rattle.cdle_model.specs.Trees.{Tree, IsBelow, NamesBelow}
 use Rattle.cdle_model.specs.Forms.{Written, def_item, type_item}
 use Rattle.cdle_model.specs.Classes.{TreeClass, terms, types, kinds, within, Fits, item_sorts, IsOver}
 use Rattle.cdle_model.specs.Erasure.{erased}
 use Rattle.cdle_model.specs.Steps.{IsSignature}
 use Rattle.cdle_model.specs.Derivation.{Entry, term_of, type_of, Item, bodies, item, signed, signature}
+use Rattle.cdle_model.proofs.Lists.{get-snoc, length-sorts, signature-snoc}
 use Rattle.cdle_model.proofs.ScopedTrees.{Inner, fits-inner, erased-inner}
 
 -- the bodies, types and kinds of a signature are closed
@@ -44,30 +45,12 @@ closed-items is h = record {
   closed_kinds = λ n a e. let (i, x, y) = known-get (slice_get is n) (type_of a) e in subst (λ z. IsBelow 0 (known_tree z)) y (h n i x).0;
 }
 
-pub get-snoc : {A : Type 0} (is : List A) (i j : A) (n : ℕ) → slice_get (is ++ (i ∷ [])) n ≡ Some j → (slice_get is n ≡ Some j) ⊎ (n ≡ length is) × (i ≡ j)
-get-snoc [] i j zero e = inr (refl, grind arith)
-get-snoc [] i j (suc n) e = absurd (grind arith)
-get-snoc (k ∷ is) i j zero e = inl e
-get-snoc (k ∷ is) i j (suc n) e = by_cases (get-snoc is i j n e)
-  where
-    by_cases : (slice_get is n ≡ Some j) ⊎ (n ≡ length is) × (i ≡ j) → (slice_get is n ≡ Some j) ⊎ (suc n ≡ suc (length is)) × (i ≡ j)
-    by_cases (inl h) = inl h
-    by_cases (inr h) = inr (ap suc h.0, h.1)
-
 closed-snoc : (is : List Item) (i : Item) → AreClosed is → IsClosedItem (length is) i → AreClosed (is ++ (i ∷ []))
 closed-snoc is i h k n j e = by_cases (get-snoc is i j n e)
   where
     by_cases : (slice_get is n ≡ Some j) ⊎ (n ≡ length is) × (i ≡ j) → IsClosedItem n j
     by_cases (inl x) = h n j x
     by_cases (inr x) = rw x.0 (subst (IsClosedItem (length is)) x.1 k)
-
-pub length-sorts : (es : List Written) → length (item_sorts es) ≡ length (signature es)
-length-sorts [] = refl
-length-sorts (w ∷ es) = ap suc (length-sorts es)
-
-pub signature-snoc : (es : List Written) (w : Written) → signature (es ++ (w ∷ [])) ≡ signature es ++ (signed w ∷ [])
-signature-snoc [] w = refl
-signature-snoc (v ∷ es) w = ap (◌∷◌ (signed v)) (signature-snoc es w)
 
 closed-tree : (es : List Written) (c : TreeClass) (t : Tree) → Fits (within [] (item_sorts es)) c t → Inner 0 (length (signature es)) (erased t)
 closed-tree es c t h = rw (← length-sorts es) (erased-inner 0 (length (item_sorts es)) t (fits-inner [] (item_sorts es) c t h))

@@ -1,5 +1,5 @@
 -- A derivation under a substitution of terms and types for the variables of its context is a derivation; so is one in a context of joined entries.
-use Rattle.std.proofs.Common.{◌≡◌, ℕ, zero, suc, true, List, [], ◌∷◌, Option, Some, option_map, refl, sym, ap, ap₂, ◌∙◌, subst, arith}
+use Rattle.std.proofs.Common.{◌≡◌, ℕ, zero, suc, true, List, ◌∷◌, Some, option_map, refl, sym, ap, ap₂, ◌∙◌, subst, arith}
 use Rattle.cdle_model.specs.Trees.{of_pure, of_term, of_type, eq_of, beta_of, phi_of, guide_of, Tree, var, name, leaf, unary, fun, apply, binary, bind, shift, lacks}
 use Rattle.cdle_model.specs.Erasure.{erased}
 use Rattle.cdle_model.specs.Steps.{Joined}
@@ -9,7 +9,7 @@ use Rattle.cdle_model.proofs.Shifts.{shift-one, sub-put}
 use Rattle.cdle_model.proofs.Rewriting.{linked-turn, linked-map}
 use Rattle.cdle_model.proofs.Closed.{sub-closed}
 use Rattle.cdle_model.proofs.Equality.{step-sub}
-use Rattle.cdle_model.proofs.UniqueTypes.{SameEntry, SameContext, raised-from, raised-same}
+use Rattle.cdle_model.proofs.UniqueTypes.{SameContext, raised-from, SameAt, entry-at}
 use Rattle.cdle_model.proofs.MissingVariable.{lacks-sub}
 use Rattle.cdle_model.proofs.Signatures.{ClosedItems}
 use Rattle.cdle_model.proofs.ErasedSubstitution.{asub, erased-lift, erased-sub}
@@ -154,24 +154,7 @@ asub-var (bind guide_of p q) = ap₂ (bind guide_of) (asub-var p) (under-sub_var
 asub-var (bind f p q) = ap₂ (bind f) (asub-var p) (under-var q ∙ asub-var q)
 
 module _ (is : List Item) (g : ClosedItems is) where
-  SameAt : Entry → Option Entry → Type 0
-  SameAt e o = (f : Entry) × (o ≡ Some f) × SameEntry (bodies is) e f
-
-  raised-at : (e : Entry) (o : Option Entry) → SameAt e o → SameAt (raised e) (option_map raised o)
-  unfolding SameAt
-  raised-at e o h = (raised h.0, ap (option_map raised) h.1, raised-same is g.signed_bodies e h.0 h.2)
-
-  entry-at : (c d : List Entry) (i : ℕ) (e : Entry) → SameContext (bodies is) c d → entry c i ≡ Some e → SameAt e (entry d i)
-  unfolding SameAt
-  entry-at [] d i e w x = absurd (grind arith)
-  entry-at (u ∷ c) [] i e w x = absurd w
-  entry-at (u ∷ c) (v ∷ d) zero e w x = let k : raised u ≡ e = grind arith in rw (← k) (raised v, refl, raised-same is g.signed_bodies u v w.0)
-  entry-at (u ∷ c) (v ∷ d) (suc i) e w x =
-      let (m, p, q) = raised-from (entry c i) e x in
-      subst (λ z. SameAt z (option_map raised (entry d i))) q (raised-at m (entry d i) (entry-at c d i m w.1 p))
-
-  given-same : (d : List Entry) (i : ℕ) (e : Entry) → SameAt e (entry d i) → Given is d (var i) (put_entry var e)
-  unfolding SameAt
+  given-same : (d : List Entry) (i : ℕ) (e : Entry) → SameAt is g.signed_bodies e (entry d i) → Given is d (var i) (put_entry var e)
   given-same d i (term_of a) (term_of b, p, h) = rw (sub-var a) (converted (by_rule (var_term p)) (linked-turn h))
   given-same d i (type_of a) (type_of b, p, h) = rw (sub-var a) (converted (by_rule (var_type p)) (linked-turn h))
   given-same d i (term_of a) (type_of b, p, h) = absurd h
@@ -180,5 +163,5 @@ module _ (is : List Item) (g : ClosedItems is) where
   -- a derivation in a context of joined entries
   pub has-same : {j : Judgement} {c d : List Entry} {t a : Tree} → SameContext (bodies is) c d → Has is j c t a → Has is j d t a
   has-same {j = j} {c = c} {d = d} {t = t} {a = a} w h =
-      let k : Has is j d (asub var t) (sub (er var) a) = has-sub is g var (λ i e x. given-same d i e (entry-at c d i e w x)) h in
+      let k : Has is j d (asub var t) (sub (er var) a) = has-sub is g var (λ i e x. given-same d i e (entry-at is g.signed_bodies c d i e w x)) h in
       rw (asub-var t, sub-var a) at k

@@ -8,7 +8,7 @@ use Rattle.cdle_model.specs.Derivation.{Entry, term_of, type_of, entry, Item, bo
 use Rattle.cdle_model.specs.Check.{Reason, erased_use, Questions, finds, refuse, ask_same, at_part, then, with_binder, with_equation, unless_deep, limited, star_then, found_term, found_type, infer}
 use Rattle.cdle_model.proofs.Rewriting.{linked-join, linked-turn}
 use Rattle.cdle_model.proofs.Equality.{joined-put}
-use Rattle.cdle_model.proofs.UniqueTypes.{SameContext, bind-parts, two-parts, unique}
+use Rattle.cdle_model.proofs.UniqueTypes.{bind-parts, two-parts, same-context, types-unique}
 use Rattle.cdle_model.proofs.Signatures.{ClosedItems}
 use Rattle.cdle_model.proofs.SubstitutedDerivations.{has-same}
 use Rattle.cdle_model.proofs.Inversion.{in_lam, in_xlam, in_app, in_eapp, in_tapp, in_fst, in_snd, in_rho, in_phi, in_delta, in_pair, in_pi, in_all, in_iota, in_allt, in_tlam, in_xtlam, in_at, in_on, in_kpi, in_kpit, in_elam, kind-star}
@@ -21,13 +21,8 @@ module _ (is : List Item) (g' : ClosedItems is) where
   abbrev Told : Judgement → List Entry → Tree → Questions → Type 0
   Told j c t q = Tells (bodies is) (Has is j c t) (No j c t) q
 
-  same-context : (c : List Entry) → SameContext (bodies is) c c
-  same-context [] = tt
-  same-context (term_of a ∷ c) = (end, same-context c)
-  same-context (type_of a ∷ c) = (end, same-context c)
-
   pub uniq : {j : Judgement} (c : List Entry) {t a b : Tree} → Has is j c t a → Has is j c t b → Joined (bodies is) a b
-  uniq c h k = unique is g'.signed_bodies (same-context c) h k
+  uniq c h k = types-unique is g'.signed_bodies _ c _ _ _ h k
 
   -- the questions of a part, and then the rest
   told-then : (j j' : Judgement) (c d : List Entry) (t z : Tree) (i : ℕ) (q : Questions) (f : Tree → Questions) → Told j' d t q → (No j' d t → No j c z) → ((a : Tree) → Has is j' d t a → Told j c z (f a)) → Told j c z (then (at_part i q) f)
@@ -125,7 +120,7 @@ module _ (is : List Item) (g' : ClosedItems is) where
   told a_term c (beta p k) = told-limited a_term c (beta p k) (eq p p) (by_rule beta_rule)
   told a_term c (pair t u b) = told-then a_term a_term c c t (pair t u b) 1 _ _ (told a_term c t) (λ no x h. no _ (in_pair h).1)
       (λ a ha. told-star a_term c (term_of a ∷ c) (pair t u b) b 3 _ _ (told a_type (term_of a ∷ c) b)
-      (λ no x h. let (y, d, e, k, l) = in_pair h in no (has-same is g' (uniq c d ha, same-context c) e))
+      (λ no x h. let (y, d, e, k, l) = in_pair h in no (has-same is g' (uniq c d ha, same-context (bodies is) c) e))
       (λ hb. told-then a_term a_term c c u (pair t u b) 2 _ _ (told a_term c u) (λ no x h. no _ (in_pair h).3)
       (λ d hd. told-deep a_term c (pair t u b) (put 0 (erased t) (erased b)) _ (told-same a_term c (pair t u b) d (put 0 (erased t) (erased b)) (λ no x h. no (uniq c hd (in_pair h).3))
       (λ d-is. told-same a_term c (pair t u b) (erased t) (erased u) (λ no x h. no (in_pair h).4)

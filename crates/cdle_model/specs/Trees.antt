@@ -1,5 +1,5 @@
 -- Nameless trees: one type for Core's terms, types and kinds, for pure terms, and for erased types and kinds.
-use Rattle.std.specs.Prelude.{◌≡◌, ℕ, suc, ◌+◌, ◌<◌, pred, Bool, true, false, cond, ltb, eqb}
+use Rattle.std.specs.Prelude.{ℕ, suc, ◌+◌, ◌<◌, pred, Bool, true, false, cond, ltb, eqb}
 
 -- what a function takes, and what it is: a pure term over a pure term, a type over a term, a type over a type
 pub data Function : Type 0 where
