@@ -12,7 +12,7 @@ use Rattle.cdle_model.specs.HeadForms.{Halt, deep, deepest, HeadAnswer, value, n
 use Rattle.cdle_model.specs.Comparison.{Answer, same, apart, halted, compare}
 use Rattle.cdle_model.specs.Derivation.{Entry, term_of, type_of, raised, entry, Item, item, Judgement, a_term, a_type, a_kind, true_pure, false_pure}
 use Rattle.cdle_model.specs.Fitting.{IsErased, subject_class, given_class, entry_sort, entry_sorts, EntryFits, ContextFits, BodiesFit, SignatureFits}
-use Rattle.cdle_model.specs.Check.{Reason, erased_use, Finding, gives, halts, Questions, finds, refuse, halt, ask_same, ask_head, at_part, then, binder_parts, equation_parts, with_binder, with_equation, unless_deep, limited, star_then, found_term, found_type, infer, by_answer, by_head, answer}
+use Rattle.cdle_model.specs.Check.{Reason, erased_use, Finding, gives, halts, Questions, finds, refuse, halt, ask_same, ask_head, at_part, then, binder_parts, equation_parts, with_binder, with_equation, unless_deep, limited, star_then, found, infer, by_answer, by_head, answer}
 use Rattle.cdle_model.proofs.ClassSubstitution.{fits-put, fits-shift, fits-closed}
 use Rattle.cdle_model.proofs.ClassErasure.{has-erasure, lacks-type, erased-fits}
 use Rattle.cdle_model.proofs.ClassSteps.{HeadFits, head-fits, compare-halts}
@@ -131,12 +131,12 @@ module _ (zs : List Sort) (is : List Item) (g : SignatureFits zs is) where
       (λ y z l. sound-then zs (λ b. HasErasure u × Fits (within vs zs) d b) Y 2 r' _ k
       (λ y' x'. sound-same vs d y' y e' x'.1 (dom y z l) (sound-deep zs Y (m z) (finds (m z)) (last x.0 x'.0 y z l)))))
 
-  found_term-sound : (Y : Tree → Type 0) (us : List Sort) (o : Option Entry) → EntryFits us zs OfTerm o → ((a : Tree) → Fits (within us zs) guides a → Y a) → Sound zs Y (found_term o)
+  found_term-sound : (Y : Tree → Type 0) (us : List Sort) (o : Option Entry) → EntryFits us zs OfTerm o → ((a : Tree) → Fits (within us zs) guides a → Y a) → Sound zs Y (found a_term o)
   found_term-sound Y us (Some (term_of a)) h k = sound-deep zs Y a (finds a) (k a h)
   found_term-sound Y us (Some (type_of a)) h k = absurd h
   found_term-sound Y us None h k = absurd h
 
-  found_type-sound : (Y : Tree → Type 0) (us : List Sort) (o : Option Entry) → EntryFits us zs OfType o → ((a : Tree) → Fits (within us zs) guide_kinds a → Y a) → Sound zs Y (found_type o)
+  found_type-sound : (Y : Tree → Type 0) (us : List Sort) (o : Option Entry) → EntryFits us zs OfType o → ((a : Tree) → Fits (within us zs) guide_kinds a → Y a) → Sound zs Y (found a_type o)
   found_type-sound Y us (Some (type_of a)) h k = sound-deep zs Y a (finds a) (k a h)
   found_type-sound Y us (Some (term_of a)) h k = absurd h
   found_type-sound Y us None h k = absurd h

@@ -2,11 +2,11 @@
 use Rattle.std.proofs.Common.{◌≡◌, ℕ, zero, suc, [], ◌∷◌, Some, refl}
 use native.Mathlib.Decide.{ℕ_discrete}
 use Rattle.cdle_model.specs.Trees.{var}
-use Rattle.cdle_model.specs.Forms.{star, kpit, pi, allt, eq, fn}
+use Rattle.cdle_model.specs.Forms.{star, kpit, pi, allt, eq, fn, app, fst, phi}
 use Rattle.cdle_model.specs.Machine.{spent, run}
 use Rattle.cdle_model.specs.Comparison.{taken, move}
 use Rattle.cdle_model.specs.Check.{not_a_function, not_an_intersection, not_an_equation, wrong_kind, mismatch, erased_use, parts_differ, not_booleans, sides_differ, accepts, refuses, spends, duplicate, check_items}
-use Rattle.cdle_model.specs.Examples.{identity_pure, omega_pure, identity, repeated_file, erased_variable_used, erased_variable_in_kept_part, pair_by_eta, argument_never_reached, endless, rho_plain, rho_from_right, rho_from_left, applied_variable, projected_variable, variable_as_equation, type_of_wrong_kind, other_type, pair_of_other_parts, delta_of_one_side, doubled_type}
+use Rattle.cdle_model.specs.Examples.{identity_pure, omega_pure, identity, repeated_file, erased_variable_used, erased_variable_in_kept_part, pair_by_eta, argument_never_reached, endless, rho_plain, rho_from_right, rho_from_left, of_variable, type_of_wrong_kind, other_type, pair_of_other_parts, delta_of_one_side, doubled_type}
 
 pub accepted_identity : check_items 5 identity ≡ accepts
 unfolding ℕ_discrete
@@ -60,15 +60,15 @@ pub refused_rho_from_right : check_items 2 rho_from_right ≡ refuses 0 (2 ∷ 2
 unfolding ℕ_discrete
 refused_rho_from_right = refl
 
-pub refused_applied_variable : check_items 1 applied_variable ≡ refuses 0 (2 ∷ 2 ∷ 2 ∷ 1 ∷ []) (not_a_function (var 1))
+pub refused_applied_variable : check_items 1 (of_variable (app (var 0) (var 0))) ≡ refuses 0 (2 ∷ 2 ∷ 2 ∷ 1 ∷ []) (not_a_function (var 1))
 unfolding ℕ_discrete
 refused_applied_variable = refl
 
-pub refused_projected_variable : check_items 1 projected_variable ≡ refuses 0 (2 ∷ 2 ∷ 2 ∷ 1 ∷ []) (not_an_intersection (var 1))
+pub refused_projected_variable : check_items 1 (of_variable (fst (var 0))) ≡ refuses 0 (2 ∷ 2 ∷ 2 ∷ 1 ∷ []) (not_an_intersection (var 1))
 unfolding ℕ_discrete
 refused_projected_variable = refl
 
-pub refused_variable_as_equation : check_items 1 variable_as_equation ≡ refuses 0 (2 ∷ 2 ∷ 2 ∷ 1 ∷ []) (not_an_equation (var 1))
+pub refused_variable_as_equation : check_items 1 (of_variable (phi (var 0) (var 0) (var 0))) ≡ refuses 0 (2 ∷ 2 ∷ 2 ∷ 1 ∷ []) (not_an_equation (var 1))
 unfolding ℕ_discrete
 refused_variable_as_equation = refl
 

@@ -5,7 +5,7 @@ use Rattle.cdle_model.specs.Steps.{contract, unfold_name, here, in_head, Step, J
 use Rattle.cdle_model.specs.Machine.{Move, stop, go, answered, spent, run}
 use Rattle.cdle_model.specs.Depth.{depth}
 use Rattle.cdle_model.specs.HeadForms.{deep, deepest, HeadStep, none, to, blocked, contraction, unfolding_of, step_under, if_same, ill_applied, head_step}
-use Rattle.cdle_model.specs.Comparison.{Pair, Split, into, differ, unsorted, split, Answer, same, State, pairs, taken, past, is_name, same_name, move_pairs, move_split, move_taken, move, compare}
+use Rattle.cdle_model.specs.Comparison.{Pair, Split, into, differ, unsorted, split, Answer, same, State, pairs, taken, past, same_name, move_pairs, move_split, move_taken, move, compare}
 use Rattle.cdle_model.proofs.Rewriting.{linked-join}
 use Rattle.cdle_model.proofs.Runs.{stops, goes}
 use Rattle.cdle_model.proofs.HeadParts.{AllJoined, split-joined}
@@ -67,12 +67,8 @@ After s (stop same) = Unit {0}
 After s (stop x) = ⊥
 After s (go t) = Good s ⊥ t
 
-is_name-same : (n : ℕ) (b : Tree) → is_name n b ≡ true → name n ≡ b
-is_name-same n (name m) e = let k : n ≡ m = grind arith in ap name k
-is_name-same n b e = absurd (grind arith)
-
-pub same_name-same : (a b : Tree) → same_name a b ≡ true → a ≡ b
-same_name-same (name n) b e = is_name-same n b e
+same_name-same : (a b : Tree) → same_name a b ≡ true → a ≡ b
+same_name-same (name n) (name m) e = let k : n ≡ m = grind arith in ap name k
 same_name-same a b e = absurd (grind arith)
 
 pairs-good : (s : List Tree) (ps : List Pair) → After s (move_pairs ps) → AllJoined s ps

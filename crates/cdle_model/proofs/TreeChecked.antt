@@ -5,7 +5,7 @@ use Rattle.cdle_model.specs.Forms.{star, kpi, kpit, pi, all, allt, at_, on, iota
 use Rattle.cdle_model.specs.Erasure.{erased}
 use Rattle.cdle_model.specs.Steps.{end, Joined}
 use Rattle.cdle_model.specs.Derivation.{Entry, term_of, type_of, entry, Item, bodies, item, Judgement, a_term, a_type, a_kind, true_pure, false_pure, var_term, name_term, lam_rule, elam_rule, xlam_rule, app_rule, eapp_rule, tapp_rule, pair_rule, fst_rule, snd_rule, beta_rule, rho_rule, phi_rule, delta_rule, var_type, name_type, pi_rule, all_rule, iota_rule, allt_rule, tlam_rule, xtlam_rule, at_rule, on_rule, eq_rule, star_rule, kpi_rule, kpit_rule, Has, by_rule, converted}
-use Rattle.cdle_model.specs.Check.{Reason, erased_use, Questions, finds, refuse, ask_same, at_part, then, with_binder, with_equation, unless_deep, limited, star_then, found_term, found_type, infer}
+use Rattle.cdle_model.specs.Check.{Reason, erased_use, Questions, finds, refuse, ask_same, at_part, then, with_binder, with_equation, unless_deep, limited, star_then, found, infer}
 use Rattle.cdle_model.proofs.Rewriting.{linked-join, linked-turn}
 use Rattle.cdle_model.proofs.Equality.{joined-put}
 use Rattle.cdle_model.proofs.UniqueTypes.{bind-parts, two-parts, same-context, types-unique}
@@ -80,22 +80,22 @@ module _ (is : List Item) (g' : ClosedItems is) where
       by_test true e = v e
       by_test false e = λ b h. true-false (sym e ∙ y b h)
 
-  told-entry : (c : List Entry) (i : ℕ) (o : Option Entry) → entry c i ≡ o → Told a_term c (var i) (found_term o)
+  told-entry : (c : List Entry) (i : ℕ) (o : Option Entry) → entry c i ≡ o → Told a_term c (var i) (found a_term o)
   told-entry c i (Some (term_of a)) e = told-limited a_term c (var i) a (by_rule (var_term e))
   told-entry c i (Some (type_of a)) e = tt
   told-entry c i None e = tt
 
-  told-entry_type : (c : List Entry) (i : ℕ) (o : Option Entry) → entry c i ≡ o → Told a_type c (var i) (found_type o)
+  told-entry_type : (c : List Entry) (i : ℕ) (o : Option Entry) → entry c i ≡ o → Told a_type c (var i) (found a_type o)
   told-entry_type c i (Some (type_of a)) e = told-limited a_type c (var i) a (by_rule (var_type e))
   told-entry_type c i (Some (term_of a)) e = tt
   told-entry_type c i None e = tt
 
-  told-name : (c : List Entry) (i : ℕ) (o : Option Entry) → item is i ≡ o → Told a_term c (name i) (found_term o)
+  told-name : (c : List Entry) (i : ℕ) (o : Option Entry) → item is i ≡ o → Told a_term c (name i) (found a_term o)
   told-name c i (Some (term_of a)) e = told-limited a_term c (name i) a (by_rule (name_term e))
   told-name c i (Some (type_of a)) e = tt
   told-name c i None e = tt
 
-  told-name_type : (c : List Entry) (i : ℕ) (o : Option Entry) → item is i ≡ o → Told a_type c (name i) (found_type o)
+  told-name_type : (c : List Entry) (i : ℕ) (o : Option Entry) → item is i ≡ o → Told a_type c (name i) (found a_type o)
   told-name_type c i (Some (type_of a)) e = told-limited a_type c (name i) a (by_rule (name_type e))
   told-name_type c i (Some (term_of a)) e = tt
   told-name_type c i None e = tt

@@ -79,20 +79,18 @@ limited a = unless_deep a (finds a)
 abbrev pub star_then : ℕ → Questions → Questions → Questions
 star_then i q k = then (at_part i q) (λ a. ask_same (i ∷ []) (wrong_kind a (Some star)) a star k)
 
-abbrev pub found_term : Option Entry → Questions
-found_term (Some (term_of a)) = limited a
-found_term o = halt ill_classed
-
-abbrev pub found_type : Option Entry → Questions
-found_type (Some (type_of a)) = limited a
-found_type o = halt ill_classed
+-- what is known of a variable or a name of this class
+abbrev pub found : Judgement → Option Entry → Questions
+found a_term (Some (term_of a)) = limited a
+found a_type (Some (type_of k)) = limited k
+found j o = halt ill_classed
 
 module _ (is : List Item) where
   -- the rules for the type of a term, the kind of a type, and for a kind (which gives `*`), in a context
   abbrev pub infer : Judgement → List Entry → Tree → Questions
   -- terms
-  infer a_term c (var i) = found_term (entry c i)
-  infer a_term c (name m) = found_term (item is m)
+  infer a_term c (var i) = found a_term (entry c i)
+  infer a_term c (name m) = found a_term (item is m)
   infer a_term c (lam a t) = star_then 1 (infer a_type c a) (then (at_part 2 (infer a_term (term_of (erased a) ∷ c) t)) (λ b. limited (pi (erased a) b)))
   infer a_term c (elam a t) = star_then 1 (infer a_type c a) (then (at_part 2 (infer a_term (term_of (erased a) ∷ c) t)) (λ b.
       cond (lacks 0 (erased t)) (limited (all (erased a) b)) (refuse [] erased_use)))
@@ -117,8 +115,8 @@ module _ (is : List Item) where
   infer a_term c (delta a q) = star_then 1 (infer a_type c a) (then (at_part 2 (infer a_term c q)) (λ e. with_equation (2 ∷ []) not_an_equation e (λ x y.
       ask_same [] (not_booleans x y) x true_pure (ask_same [] (not_booleans x y) y false_pure (limited (erased a))))))
   -- types
-  infer a_type c (var i) = found_type (entry c i)
-  infer a_type c (name m) = found_type (item is m)
+  infer a_type c (var i) = found a_type (entry c i)
+  infer a_type c (name m) = found a_type (item is m)
   infer a_type c (pi a b) = star_then 1 (infer a_type c a) (star_then 2 (infer a_type (term_of (erased a) ∷ c) b) (finds star))
   infer a_type c (all a b) = star_then 1 (infer a_type c a) (star_then 2 (infer a_type (term_of (erased a) ∷ c) b) (finds star))
   infer a_type c (iota a b) = star_then 1 (infer a_type c a) (star_then 2 (infer a_type (term_of (erased a) ∷ c) b) (finds star))

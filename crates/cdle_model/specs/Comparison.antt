@@ -117,14 +117,10 @@ pub data State : Type 0 where
   taken : Tree → Tree → List Pair → State
   past : Halt → State
 
-abbrev pub is_name : ℕ → Tree → Bool
-is_name n (name m) = eqb n m
-is_name n p = false
-
 -- one name on both sides needs no head form
 abbrev pub same_name : Tree → Tree → Bool
-same_name (name n) p = is_name n p
-same_name q p = false
+same_name (name n) (name m) = eqb n m
+same_name p q = false
 
 -- a pair is taken
 abbrev pub take_pair : Tree → Tree → List Pair → State

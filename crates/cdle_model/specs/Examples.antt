@@ -35,15 +35,12 @@ erased_variable_in_kept_part = named (allt star (all (var 0) (eq identity_pure i
 
 -- (def a (allt A * (iota z (pi x (pi y A A) (pi y A A)) (pi x (pi y A A) (pi y A A))))
 --   (xlam A * (pair (lam x (pi y A A) x) (lam x (pi y A A) (lam y A (app x y))) z (pi x (pi y A A) (pi y A A)))))
-abbrev endomap : Tree
-endomap = pi (var 0) (var 1)
-
-abbrev raised_maps : Tree
-raised_maps = pi (pi (var 1) (var 2)) (pi (var 2) (var 3))
+abbrev maps_of_maps : Tree
+maps_of_maps = pi (pi (var 1) (var 2)) (pi (var 2) (var 3))
 
 abbrev pub pair_by_eta : List Written
-pair_by_eta = named (allt star (iota (pi endomap (pi (var 1) (var 2))) raised_maps))
-    (xlam star (pair (lam endomap (var 0)) (lam endomap (lam (var 1) (app (var 1) (var 0)))) raised_maps)) ∷ []
+pair_by_eta = named (allt star (iota (pi (pi (var 0) (var 1)) (pi (var 1) (var 2))) maps_of_maps))
+    (xlam star (pair (lam (pi (var 0) (var 1)) (var 0)) (lam (pi (var 0) (var 1)) (lam (var 1) (app (var 1) (var 0)))) maps_of_maps)) ∷ []
 
 -- (def a (allt X * (pi a X (eq (ap (ap (fn u (fn v u)) a) (ap (fn w (ap w w)) (fn w (ap w w)))) a))) (xlam X * (lam a X (beta a (fn y y)))))
 abbrev pub argument_never_reached : List Written
@@ -69,18 +66,9 @@ rho_from_right = with_equation_of_two (eq (var 1) (var 2)) (rho (var 0) (eq (var
 abbrev pub rho_from_left : List Written
 rho_from_left = with_equation_of_two (eq (var 1) (var 2)) (rho (var 0) (eq (var 2) (var 0)) (eq (var 1) (var 2)) (beta (var 1) (var 0)))
 
--- (def a (allt X * (pi x X X)) (xlam X * (lam x X t))), of t = (app x x), (fst x), (phi x x x)
-abbrev of_variable : Tree → List Written
+-- (def a (allt X * (pi x X X)) (xlam X * (lam x X t))), where x is the variable 0 of t
+abbrev pub of_variable : Tree → List Written
 of_variable t = named identity_type (xlam star (lam (var 0) t)) ∷ []
-
-abbrev pub applied_variable : List Written
-applied_variable = of_variable (app (var 0) (var 0))
-
-abbrev pub projected_variable : List Written
-projected_variable = of_variable (fst (var 0))
-
-abbrev pub variable_as_equation : List Written
-variable_as_equation = of_variable (phi (var 0) (var 0) (var 0))
 
 -- (type a * (allt F (kpit X * *) F))
 abbrev pub type_of_wrong_kind : List Written

@@ -1,8 +1,8 @@
 //! Worked lists of items, each with its answer by the plain check. Each is a clause of a function with an empty body.
 ghost use Rattle.std.specs.Prelude.{◌≡◌, ℕ, suc, Some, List, [], ◌∷◌};
 ghost use Rattle.cdle_model.specs.Check.{accepts, check_items, duplicate, erased_use, mismatch, not_a_function, not_an_equation, not_an_intersection, not_booleans, parts_differ, refuses, sides_differ, spends, wrong_kind};
-ghost use Rattle.cdle_model.specs.Examples.{applied_variable, argument_never_reached, delta_of_one_side, doubled_type, endless, erased_variable_in_kept_part, erased_variable_used, identity, other_type, pair_by_eta, pair_of_other_parts, projected_variable, repeated_file, rho_from_left, rho_from_right, rho_plain, type_of_wrong_kind, variable_as_equation};
-ghost use Rattle.cdle_model.specs.Forms.{allt, eq, fn, kpit, pi, star};
+ghost use Rattle.cdle_model.specs.Examples.{argument_never_reached, delta_of_one_side, doubled_type, endless, erased_variable_in_kept_part, erased_variable_used, identity, of_variable, other_type, pair_by_eta, pair_of_other_parts, repeated_file, rho_from_left, rho_from_right, rho_plain, type_of_wrong_kind};
+ghost use Rattle.cdle_model.specs.Forms.{allt, app, eq, fn, fst, kpit, phi, pi, star};
 ghost use Rattle.cdle_model.specs.Trees.{Tree, var};
 
 /// Lists of items that are accepted, each with the least units for which it is.
@@ -24,9 +24,9 @@ pub fn examples_are_refused()
     ensures of_erased_variable_used { check_items 1 erased_variable_used ≡ refuses 0 (2 ∷ 2 ∷ []) erased_use }
     ensures of_erased_variable_in_kept_part { check_items 1 erased_variable_in_kept_part ≡ refuses 0 (2 ∷ 2 ∷ []) erased_use }
     ensures of_rho_from_right { check_items 2 rho_from_right ≡ refuses 0 (2 ∷ 2 ∷ 2 ∷ 2 ∷ 2 ∷ []) (sides_differ (eq (var 1) (var 2)) (eq (var 2) (var 2))) }
-    ensures of_applied_variable { check_items 1 applied_variable ≡ refuses 0 (2 ∷ 2 ∷ 2 ∷ 1 ∷ []) (not_a_function (var 1)) }
-    ensures of_projected_variable { check_items 1 projected_variable ≡ refuses 0 (2 ∷ 2 ∷ 2 ∷ 1 ∷ []) (not_an_intersection (var 1)) }
-    ensures of_variable_as_equation { check_items 1 variable_as_equation ≡ refuses 0 (2 ∷ 2 ∷ 2 ∷ 1 ∷ []) (not_an_equation (var 1)) }
+    ensures of_applied_variable { check_items 1 (of_variable (app (var 0) (var 0))) ≡ refuses 0 (2 ∷ 2 ∷ 2 ∷ 1 ∷ []) (not_a_function (var 1)) }
+    ensures of_projected_variable { check_items 1 (of_variable (fst (var 0))) ≡ refuses 0 (2 ∷ 2 ∷ 2 ∷ 1 ∷ []) (not_an_intersection (var 1)) }
+    ensures of_variable_as_equation { check_items 1 (of_variable (phi (var 0) (var 0) (var 0))) ≡ refuses 0 (2 ∷ 2 ∷ 2 ∷ 1 ∷ []) (not_an_equation (var 1)) }
     ensures of_type_of_wrong_kind { check_items 1 type_of_wrong_kind ≡ refuses 0 (2 ∷ 2 ∷ []) (wrong_kind (kpit star star) (Some star)) }
     ensures of_other_type { check_items 7 other_type ≡ refuses 0 (2 ∷ []) (mismatch (allt star (allt star (pi (var 1) (var 2)))) (allt star (allt star (pi (var 1) (var 1))))) }
     ensures of_pair_of_other_parts { check_items 5 pair_of_other_parts ≡ refuses 0 (2 ∷ 2 ∷ []) (parts_differ (fn (var 0)) (fn (fn (var 0)))) }
