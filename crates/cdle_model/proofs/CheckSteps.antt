@@ -8,7 +8,7 @@ use Rattle.cdle_model.specs.Machine.{Outcome, answered, spent, run}
 use Rattle.cdle_model.specs.HeadForms.{deep, deepest, HeadStep, none, to, blocked, head_step, at, fallen, HeadAnswer, value, no_value, head_move, head_form}
 use Rattle.cdle_model.specs.Comparison.{former, binary_head, head_of, function_of, Answer, same, apart, halted, compare}
 use Rattle.cdle_model.specs.Derivation.{Item, bodies}
-use Rattle.cdle_model.specs.Check.{Reason, Finding, gives, refused, Questions, finds, refuse, halt, ask_same, ask_head, at_part, then, binder_parts, equation_parts, with_binder, with_equation, unless_deep, by_answer, by_head, answer}
+use Rattle.cdle_model.specs.Check.{Reason, Finding, gives, refused, Questions, finds, refuse, halt, ask_same, ask_head, at_part, binder_parts, equation_parts, with_binder, with_equation, unless_deep, by_answer, by_head, answer}
 use Rattle.cdle_model.proofs.Runs.{stops, goes}
 use Rattle.cdle_model.proofs.Rewriting.{linked-join, linked-turn}
 use Rattle.cdle_model.proofs.HeadParts.{form_of, same-form}
@@ -30,19 +30,12 @@ Tells s Y N (halt h) = Unit {0}
 Tells s Y N (ask_same p w a b q) = ((Joined s a b → ⊥) → N) × (Joined s a b → Tells s Y N q)
 Tells s Y N (ask_head p a k) = (b : Tree) → Joined s a b → head_step s b ≡ none → Tells s Y N (k b)
 
-pub tells-part : (s : List Tree) (Y : Tree → Type 0) (N : Type 0) (i : ℕ) (q : Questions) → Tells s Y N q → Tells s Y N (at_part i q)
-tells-part s Y N i (finds a) h = h
-tells-part s Y N i (refuse p w) h = h
-tells-part s Y N i (halt z) h = tt
-tells-part s Y N i (ask_same p w a b q) h = (h.0, λ j. tells-part s Y N i q (h.1 j))
-tells-part s Y N i (ask_head p a k) h = λ b j e. tells-part s Y N i (k b) (h b j e)
-
-pub tells-then : (s : List Tree) (Y Y' : Tree → Type 0) (N N' : Type 0) (q : Questions) (f : Tree → Questions) → Tells s Y N q → (N → N') → ((a : Tree) → Y a → Tells s Y' N' (f a)) → Tells s Y' N' (then q f)
-tells-then s Y Y' N N' (finds a) f h k l = l a h
-tells-then s Y Y' N N' (refuse p w) f h k l = k h
-tells-then s Y Y' N N' (halt z) f h k l = tt
-tells-then s Y Y' N N' (ask_same p w a b q) f h k l = ((λ x. k (h.0 x)), λ j. tells-then s Y Y' N N' q f (h.1 j) k l)
-tells-then s Y Y' N N' (ask_head p a g) f h k l = λ b j e. tells-then s Y Y' N N' (g b) f (h b j e) k l
+pub tells-part : (s : List Tree) (Y Y' : Tree → Type 0) (N N' : Type 0) (i : ℕ) (q : Questions) (f : Tree → Questions) → Tells s Y N q → (N → N') → ((a : Tree) → Y a → Tells s Y' N' (f a)) → Tells s Y' N' (at_part i q f)
+tells-part s Y Y' N N' i (finds a) f h k l = l a h
+tells-part s Y Y' N N' i (refuse p w) f h k l = k h
+tells-part s Y Y' N N' i (halt z) f h k l = tt
+tells-part s Y Y' N N' i (ask_same p w a b q) f h k l = ((λ x. k (h.0 x)), λ j. tells-part s Y Y' N N' i q f (h.1 j) k l)
+tells-part s Y Y' N N' i (ask_head p a g) f h k l = λ b j e. tells-part s Y Y' N N' i (g b) f (h b j e) k l
 
 pub tells-deep : (s : List Tree) (Y : Tree → Type 0) (N : Type 0) (a : Tree) (q : Questions) → Tells s Y N q → Tells s Y N (unless_deep a q)
 tells-deep s Y N a q h = by_test (ltb deepest (depth a))

@@ -16,7 +16,7 @@ use Rattle.cdle_model.proofs.Lists.{get-left, get-last, get-snoc, length-sorts, 
 use Rattle.cdle_model.proofs.Signatures.{AreClosed, body-get, closed-items, closed-more, closed-none}
 use Rattle.cdle_model.proofs.ClassSubstitution.{Leads, fits-closed}
 use Rattle.cdle_model.proofs.ClassErasure.{erased-fits}
-use Rattle.cdle_model.proofs.ClassChecked.{FindingSound, Sound, sound-then, answer-sound, sound-same, sound-star, sound}
+use Rattle.cdle_model.proofs.ClassChecked.{FindingSound, Sound, sound-part, answer-sound, sound-same, sound-star, sound}
 
 -- an item is of the sort of its name
 abbrev ItemFits : List Sort → Sort → Item → Type 0
@@ -64,11 +64,11 @@ module _ (es : List Written) (g : SignatureFits (item_sorts es) (signature es)) 
   sound-item : (w : Written) → IsOver es w → Sound (item_sorts es) (λ _. ItemHasErasures w) (infer_item (signature es) w)
   sound-item (def_item x a t) h =
       sound-star (item_sorts es) (signature es) g (λ _. ItemHasErasures (def_item x a t)) [] a 1 _ _ (sound (item_sorts es) (signature es) g a_type [] a tt h.0)
-      (λ ea. sound-then (item_sorts es) (λ b. HasErasure t × Fits (within [] (item_sorts es)) guides b) (λ _. ItemHasErasures (def_item x a t)) 2 _ _ (sound (item_sorts es) (signature es) g a_term [] t tt h.1)
+      (λ ea. sound-part (item_sorts es) (λ b. HasErasure t × Fits (within [] (item_sorts es)) guides b) (λ _. ItemHasErasures (def_item x a t)) 2 _ _ (sound (item_sorts es) (signature es) g a_term [] t tt h.1)
       (λ b k. sound-same (item_sorts es) (signature es) g [] guides b (erased a) tt k.1 (erased-fits (item_sorts es) [] types a h.0 ea) (ea, k.0)))
   sound-item (type_item x l a) h =
-      sound-then (item_sorts es) (λ b. HasErasure l × Fits (within [] (item_sorts es)) guide_kinds b) (λ _. ItemHasErasures (type_item x l a)) 1 _ _ (sound (item_sorts es) (signature es) g a_kind [] l tt h.0)
-      (λ s el. sound-then (item_sorts es) (λ b. HasErasure a × Fits (within [] (item_sorts es)) guide_kinds b) (λ _. ItemHasErasures (type_item x l a)) 2 _ _ (sound (item_sorts es) (signature es) g a_type [] a tt h.1)
+      sound-part (item_sorts es) (λ b. HasErasure l × Fits (within [] (item_sorts es)) guide_kinds b) (λ _. ItemHasErasures (type_item x l a)) 1 _ _ (sound (item_sorts es) (signature es) g a_kind [] l tt h.0)
+      (λ s el. sound-part (item_sorts es) (λ b. HasErasure a × Fits (within [] (item_sorts es)) guide_kinds b) (λ _. ItemHasErasures (type_item x l a)) 2 _ _ (sound (item_sorts es) (signature es) g a_type [] a tt h.1)
       (λ b k. sound-same (item_sorts es) (signature es) g [] guide_kinds b (erased l) tt k.1 (erased-fits (item_sorts es) [] kinds l h.0 el.0) (el.0, k.0)))
 
 answered : (es : List Written) (w : Written) (n : ℕ) → SignatureFits (item_sorts es) (signature es) → IsOver es w → FindingSound (λ _. ItemHasErasures w) (check_item n es w)

@@ -8,11 +8,11 @@ use Rattle.cdle_model.specs.Erasure.{erased}
 use Rattle.cdle_model.specs.Steps.{Joined}
 use Rattle.cdle_model.specs.Derivation.{Item, bodies, Judgement, a_term, a_type, a_kind, Has, converted, signature, IsNew, HasItem, DerivedAfter, AreDerived}
 use Rattle.cdle_model.specs.FirstCheck.{first_of}
-use Rattle.cdle_model.specs.Check.{Reason, wrong_kind, mismatch, Finding, gives, refused, spent_at, halts, Questions, finds, ask_same, at_part, then, infer, infer_item, ListVerdict, accepts, refuses, spends, ends, duplicate, by_name, by_finding, check_item, check_after, check_items}
+use Rattle.cdle_model.specs.Check.{Reason, wrong_kind, mismatch, Finding, gives, refused, spent_at, halts, Questions, finds, ask_same, at_part, infer, infer_item, ListVerdict, accepts, refuses, spends, ends, duplicate, by_name, by_finding, check_item, check_after, check_items}
 use Rattle.cdle_model.proofs.Signatures.{ClosedItems, AreClosed, closed-items, closed-more, closed-none}
 use Rattle.cdle_model.proofs.NewNames.{NameTells, name-tells}
 use Rattle.cdle_model.proofs.Inversion.{kind-star}
-use Rattle.cdle_model.proofs.CheckSteps.{FindingTells, Tells, tells-part, tells-then, answer-tells}
+use Rattle.cdle_model.proofs.CheckSteps.{FindingTells, Tells, tells-part, answer-tells}
 use Rattle.cdle_model.proofs.TreeChecked.{uniq, told}
 
 -- one item
@@ -20,9 +20,9 @@ module _ (is : List Item) (g : ClosedItems is) where
   abbrev ItemTold : Written → Questions → Type 0
   ItemTold w q = Tells (bodies is) (λ _. HasItem is w) (HasItem is w → ⊥) q
 
-  part-told : (j : Judgement) (t : Tree) (w : Written) (i : ℕ) (f : Tree → Questions) → (HasItem is w → (b : Tree) × Has is j [] t b) → ((a : Tree) → Has is j [] t a → ItemTold w (f a)) → ItemTold w (then (at_part i (infer is j [] t)) f)
-  part-told j t w i f h k = tells-then (bodies is) (Has is j [] t) (λ _. HasItem is w) ((b : Tree) → Has is j [] t b → ⊥) (HasItem is w → ⊥) (at_part i (infer is j [] t)) f
-      (tells-part (bodies is) (Has is j [] t) ((b : Tree) → Has is j [] t b → ⊥) i (infer is j [] t) (told is g j [] t)) (λ x d. let (b, e) = h d in x b e) k
+  part-told : (j : Judgement) (t : Tree) (w : Written) (i : ℕ) (f : Tree → Questions) → (HasItem is w → (b : Tree) × Has is j [] t b) → ((a : Tree) → Has is j [] t a → ItemTold w (f a)) → ItemTold w (at_part i (infer is j [] t) f)
+  part-told j t w i f h k = tells-part (bodies is) (Has is j [] t) (λ _. HasItem is w) ((b : Tree) → Has is j [] t b → ⊥) (HasItem is w → ⊥) i (infer is j [] t) f
+      (told is g j [] t) (λ x d. let (b, e) = h d in x b e) k
 
   same-told : (w : Written) (p : List ℕ) (r : Reason) (a b : Tree) (k : Questions) → (HasItem is w → Joined (bodies is) a b) → (Joined (bodies is) a b → ItemTold w k) → ItemTold w (ask_same p r a b k)
   same-told w p r a b k h f = ((λ x d. x (h d)), f)

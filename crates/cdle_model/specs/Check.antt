@@ -33,21 +33,13 @@ pub data Questions : Type 0 where
   ask_same : List ℕ → Reason → Tree → Tree → Questions → Questions
   ask_head : List ℕ → Tree → (Tree → Questions) → Questions
 
--- the questions of part i, as seen from the form
-abbrev pub at_part : ℕ → Questions → Questions
-at_part i (finds a) = finds a
-at_part i (refuse p w) = refuse (i ∷ p) w
-at_part i (halt h) = halt h
-at_part i (ask_same p w a b q) = ask_same (i ∷ p) w a b (at_part i q)
-at_part i (ask_head p a k) = ask_head (i ∷ p) a (λ b. at_part i (k b))
-
--- the first questions, and those that follow from the type or kind that they find
-abbrev pub then : Questions → (Tree → Questions) → Questions
-then (finds a) f = f a
-then (refuse p w) f = refuse p w
-then (halt h) f = halt h
-then (ask_same p w a b q) f = ask_same p w a b (then q f)
-then (ask_head p a k) f = ask_head p a (λ b. then (k b) f)
+-- the questions of part i, as seen from the form, and those that follow from the type or kind that they find
+abbrev pub at_part : ℕ → Questions → (Tree → Questions) → Questions
+at_part i (finds a) f = f a
+at_part i (refuse p w) f = refuse (i ∷ p) w
+at_part i (halt h) f = halt h
+at_part i (ask_same p w a b q) f = ask_same (i ∷ p) w a b (at_part i q f)
+at_part i (ask_head p a k) f = ask_head (i ∷ p) a (λ b. at_part i (k b) f)
 
 -- the parts of a binder's form, or the refusal (no type is a pure function)
 abbrev pub binder_parts : Binder → Tree → (Tree → Tree → Questions) → Questions → Questions
@@ -77,7 +69,7 @@ limited a = unless_deep a (finds a)
 
 -- part i has the kind `*`, and then the rest
 abbrev pub star_then : ℕ → Questions → Questions → Questions
-star_then i q k = then (at_part i q) (λ a. ask_same (i ∷ []) (wrong_kind a (Some star)) a star k)
+star_then i q k = at_part i q (λ a. ask_same (i ∷ []) (wrong_kind a (Some star)) a star k)
 
 -- what is known of a variable or a name of this class
 abbrev pub found : Judgement → Option Entry → Questions
@@ -91,28 +83,28 @@ module _ (is : List Item) where
   -- terms
   infer a_term c (var i) = found a_term (entry c i)
   infer a_term c (name m) = found a_term (item is m)
-  infer a_term c (lam a t) = star_then 1 (infer a_type c a) (then (at_part 2 (infer a_term (term_of (erased a) ∷ c) t)) (λ b. limited (pi (erased a) b)))
-  infer a_term c (elam a t) = star_then 1 (infer a_type c a) (then (at_part 2 (infer a_term (term_of (erased a) ∷ c) t)) (λ b.
+  infer a_term c (lam a t) = star_then 1 (infer a_type c a) (at_part 2 (infer a_term (term_of (erased a) ∷ c) t) (λ b. limited (pi (erased a) b)))
+  infer a_term c (elam a t) = star_then 1 (infer a_type c a) (at_part 2 (infer a_term (term_of (erased a) ∷ c) t) (λ b.
       cond (lacks 0 (erased t)) (limited (all (erased a) b)) (refuse [] erased_use)))
-  infer a_term c (xlam k t) = then (at_part 1 (infer a_kind c k)) (λ s. then (at_part 2 (infer a_term (type_of (erased k) ∷ c) t)) (λ b. limited (allt (erased k) b)))
-  infer a_term c (app t u) = then (at_part 1 (infer a_term c t)) (λ f. with_binder pi_of (1 ∷ []) not_a_function f (λ a b.
-      then (at_part 2 (infer a_term c u)) (λ a'. ask_same (2 ∷ []) (mismatch a' a) a' a (limited (put 0 (erased u) b)))))
-  infer a_term c (eapp t u) = then (at_part 1 (infer a_term c t)) (λ f. with_binder all_of (1 ∷ []) not_a_function f (λ a b.
-      then (at_part 2 (infer a_term c u)) (λ a'. ask_same (2 ∷ []) (mismatch a' a) a' a (limited (put 0 (erased u) b)))))
-  infer a_term c (tapp t u) = then (at_part 1 (infer a_term c t)) (λ f. with_binder allt_of (1 ∷ []) not_a_function f (λ k b.
-      then (at_part 2 (infer a_type c u)) (λ k'. ask_same (2 ∷ []) (wrong_kind k' (Some k)) k' k (limited (put 0 (erased u) b)))))
-  infer a_term c (fst t) = then (at_part 1 (infer a_term c t)) (λ f. with_binder iota_of (1 ∷ []) not_an_intersection f (λ a b. limited a))
-  infer a_term c (snd t) = then (at_part 1 (infer a_term c t)) (λ f. with_binder iota_of (1 ∷ []) not_an_intersection f (λ a b. limited (put 0 (erased t) b)))
+  infer a_term c (xlam k t) = at_part 1 (infer a_kind c k) (λ s. at_part 2 (infer a_term (type_of (erased k) ∷ c) t) (λ b. limited (allt (erased k) b)))
+  infer a_term c (app t u) = at_part 1 (infer a_term c t) (λ f. with_binder pi_of (1 ∷ []) not_a_function f (λ a b.
+      at_part 2 (infer a_term c u) (λ a'. ask_same (2 ∷ []) (mismatch a' a) a' a (limited (put 0 (erased u) b)))))
+  infer a_term c (eapp t u) = at_part 1 (infer a_term c t) (λ f. with_binder all_of (1 ∷ []) not_a_function f (λ a b.
+      at_part 2 (infer a_term c u) (λ a'. ask_same (2 ∷ []) (mismatch a' a) a' a (limited (put 0 (erased u) b)))))
+  infer a_term c (tapp t u) = at_part 1 (infer a_term c t) (λ f. with_binder allt_of (1 ∷ []) not_a_function f (λ k b.
+      at_part 2 (infer a_type c u) (λ k'. ask_same (2 ∷ []) (wrong_kind k' (Some k)) k' k (limited (put 0 (erased u) b)))))
+  infer a_term c (fst t) = at_part 1 (infer a_term c t) (λ f. with_binder iota_of (1 ∷ []) not_an_intersection f (λ a b. limited a))
+  infer a_term c (snd t) = at_part 1 (infer a_term c t) (λ f. with_binder iota_of (1 ∷ []) not_an_intersection f (λ a b. limited (put 0 (erased t) b)))
   infer a_term c (beta p k) = limited (eq p p)
-  infer a_term c (pair t u b) = then (at_part 1 (infer a_term c t)) (λ a. star_then 3 (infer a_type (term_of a ∷ c) b)
-      (then (at_part 2 (infer a_term c u)) (λ d. unless_deep (put 0 (erased t) (erased b)) (ask_same (2 ∷ []) (mismatch d (put 0 (erased t) (erased b))) d (put 0 (erased t) (erased b))
+  infer a_term c (pair t u b) = at_part 1 (infer a_term c t) (λ a. star_then 3 (infer a_type (term_of a ∷ c) b)
+      (at_part 2 (infer a_term c u) (λ d. unless_deep (put 0 (erased t) (erased b)) (ask_same (2 ∷ []) (mismatch d (put 0 (erased t) (erased b))) d (put 0 (erased t) (erased b))
       (ask_same [] (parts_differ (erased t) (erased u)) (erased t) (erased u) (limited (iota a (erased b))))))))
-  infer a_term c (rho q g a t) = then (at_part 1 (infer a_term c q)) (λ e. with_equation (1 ∷ []) not_an_equation e (λ x y.
+  infer a_term c (rho q g a t) = at_part 1 (infer a_term c q) (λ e. with_equation (1 ∷ []) not_an_equation e (λ x y.
       star_then 3 (infer a_type c a) (unless_deep (put 0 x g) (ask_same [] (sides_differ (erased a) (put 0 x g)) (erased a) (put 0 x g)
-      (then (at_part 4 (infer a_term c t)) (λ d. unless_deep (put 0 y g) (ask_same (4 ∷ []) (mismatch d (put 0 y g)) d (put 0 y g) (limited (erased a)))))))))
-  infer a_term c (phi q t p) = then (at_part 1 (infer a_term c q)) (λ e. with_equation (1 ∷ []) not_an_equation e (λ x y.
-      then (at_part 2 (infer a_term c t)) (λ a. ask_same [] (sides_differ (eq x x) (eq (erased t) (erased t))) x (erased t) (ask_same [] (sides_differ (eq y y) (eq p p)) y p (limited a)))))
-  infer a_term c (delta a q) = star_then 1 (infer a_type c a) (then (at_part 2 (infer a_term c q)) (λ e. with_equation (2 ∷ []) not_an_equation e (λ x y.
+      (at_part 4 (infer a_term c t) (λ d. unless_deep (put 0 y g) (ask_same (4 ∷ []) (mismatch d (put 0 y g)) d (put 0 y g) (limited (erased a)))))))))
+  infer a_term c (phi q t p) = at_part 1 (infer a_term c q) (λ e. with_equation (1 ∷ []) not_an_equation e (λ x y.
+      at_part 2 (infer a_term c t) (λ a. ask_same [] (sides_differ (eq x x) (eq (erased t) (erased t))) x (erased t) (ask_same [] (sides_differ (eq y y) (eq p p)) y p (limited a)))))
+  infer a_term c (delta a q) = star_then 1 (infer a_type c a) (at_part 2 (infer a_term c q) (λ e. with_equation (2 ∷ []) not_an_equation e (λ x y.
       ask_same [] (not_booleans x y) x true_pure (ask_same [] (not_booleans x y) y false_pure (limited (erased a))))))
   -- types
   infer a_type c (var i) = found a_type (entry c i)
@@ -120,24 +112,24 @@ module _ (is : List Item) where
   infer a_type c (pi a b) = star_then 1 (infer a_type c a) (star_then 2 (infer a_type (term_of (erased a) ∷ c) b) (finds star))
   infer a_type c (all a b) = star_then 1 (infer a_type c a) (star_then 2 (infer a_type (term_of (erased a) ∷ c) b) (finds star))
   infer a_type c (iota a b) = star_then 1 (infer a_type c a) (star_then 2 (infer a_type (term_of (erased a) ∷ c) b) (finds star))
-  infer a_type c (allt k b) = then (at_part 1 (infer a_kind c k)) (λ s. star_then 2 (infer a_type (type_of (erased k) ∷ c) b) (finds star))
-  infer a_type c (tlam a b) = star_then 1 (infer a_type c a) (then (at_part 2 (infer a_type (term_of (erased a) ∷ c) b)) (λ k. limited (kpi (erased a) k)))
-  infer a_type c (xtlam k b) = then (at_part 1 (infer a_kind c k)) (λ s. then (at_part 2 (infer a_type (type_of (erased k) ∷ c) b)) (λ l. limited (kpit (erased k) l)))
-  infer a_type c (at_ a t) = then (at_part 1 (infer a_type c a)) (λ f. with_binder kpi_of (1 ∷ []) (λ z. wrong_kind z None) f (λ b k.
-      then (at_part 2 (infer a_term c t)) (λ b'. ask_same (2 ∷ []) (mismatch b' b) b' b (limited (put 0 (erased t) k)))))
-  infer a_type c (on a t) = then (at_part 1 (infer a_type c a)) (λ f. with_binder kpit_of (1 ∷ []) (λ z. wrong_kind z None) f (λ b k.
-      then (at_part 2 (infer a_type c t)) (λ b'. ask_same (2 ∷ []) (wrong_kind b' (Some b)) b' b (limited (put 0 (erased t) k)))))
+  infer a_type c (allt k b) = at_part 1 (infer a_kind c k) (λ s. star_then 2 (infer a_type (type_of (erased k) ∷ c) b) (finds star))
+  infer a_type c (tlam a b) = star_then 1 (infer a_type c a) (at_part 2 (infer a_type (term_of (erased a) ∷ c) b) (λ k. limited (kpi (erased a) k)))
+  infer a_type c (xtlam k b) = at_part 1 (infer a_kind c k) (λ s. at_part 2 (infer a_type (type_of (erased k) ∷ c) b) (λ l. limited (kpit (erased k) l)))
+  infer a_type c (at_ a t) = at_part 1 (infer a_type c a) (λ f. with_binder kpi_of (1 ∷ []) (λ z. wrong_kind z None) f (λ b k.
+      at_part 2 (infer a_term c t) (λ b'. ask_same (2 ∷ []) (mismatch b' b) b' b (limited (put 0 (erased t) k)))))
+  infer a_type c (on a t) = at_part 1 (infer a_type c a) (λ f. with_binder kpit_of (1 ∷ []) (λ z. wrong_kind z None) f (λ b k.
+      at_part 2 (infer a_type c t) (λ b'. ask_same (2 ∷ []) (wrong_kind b' (Some b)) b' b (limited (put 0 (erased t) k)))))
   infer a_type c (eq p q) = finds star
   -- kinds
   infer a_kind c star = finds star
-  infer a_kind c (kpi a k) = star_then 1 (infer a_type c a) (then (at_part 2 (infer a_kind (term_of (erased a) ∷ c) k)) (λ s. finds star))
-  infer a_kind c (kpit k l) = then (at_part 1 (infer a_kind c k)) (λ s. then (at_part 2 (infer a_kind (type_of (erased k) ∷ c) l)) (λ t. finds star))
+  infer a_kind c (kpi a k) = star_then 1 (infer a_type c a) (at_part 2 (infer a_kind (term_of (erased a) ∷ c) k) (λ s. finds star))
+  infer a_kind c (kpit k l) = at_part 1 (infer a_kind c k) (λ s. at_part 2 (infer a_kind (type_of (erased k) ∷ c) l) (λ t. finds star))
   infer j c t = halt ill_classed
 
   -- an item over the items of the signature: its written type has `*` or its written kind is one, and its body has it
   abbrev pub infer_item : Written → Questions
-  infer_item (def_item x a t) = star_then 1 (infer a_type [] a) (then (at_part 2 (infer a_term [] t)) (λ b. ask_same (2 ∷ []) (mismatch b (erased a)) b (erased a) (finds b)))
-  infer_item (type_item x k a) = then (at_part 1 (infer a_kind [] k)) (λ s. then (at_part 2 (infer a_type [] a)) (λ l. ask_same (2 ∷ []) (wrong_kind l (Some (erased k))) l (erased k) (finds l)))
+  infer_item (def_item x a t) = star_then 1 (infer a_type [] a) (at_part 2 (infer a_term [] t) (λ b. ask_same (2 ∷ []) (mismatch b (erased a)) b (erased a) (finds b)))
+  infer_item (type_item x k a) = at_part 1 (infer a_kind [] k) (λ s. at_part 2 (infer a_type [] a) (λ l. ask_same (2 ∷ []) (wrong_kind l (Some (erased k))) l (erased k) (finds l)))
 
 -- what is found with a number of units: a type or kind, or a refusal at a path, or a path at which the units are spent, or the end
 pub data Finding : Type 0 where

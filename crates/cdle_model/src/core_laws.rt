@@ -1,12 +1,12 @@
 //! The laws of Core's definitions. Each is the contract of a function with an empty body.
 ghost use Rattle.std.specs.Prelude.{◌≡◌, ◌≤◌, ◌+◌, ℕ, suc, true, List, ◌∷◌, take};
 ghost use Rattle.cdle_model.specs.Check.{IsUndecided, ListVerdict, Reason, accepts, answer, check_items, duplicate, ends, gives, infer, refuses, spends};
-ghost use Rattle.cdle_model.specs.Classes.{AreItems, Fits, TreeClass, item_sorts, within};
+ghost use Rattle.cdle_model.specs.Classes.{AreItems, Fits, TreeClass, item_sorts, terms, within};
 ghost use Rattle.cdle_model.specs.Comparison.{Answer, apart, compare, halted, same};
 ghost use Rattle.cdle_model.specs.Derivation.{AreDerived, Entry, Has, Item, Judgement, bodies, signature};
 ghost use Rattle.cdle_model.specs.Erasure.{HasErasure, erased};
 ghost use Rattle.cdle_model.specs.Fitting.{BodiesFit, ContextFits, HaveErasures, IsErased, SignatureFits, class_of, entry_sorts, erased_class, given_class, subject_class};
-ghost use Rattle.cdle_model.specs.Forms.{Written};
+ghost use Rattle.cdle_model.specs.Forms.{Written, xlam};
 ghost use Rattle.cdle_model.specs.HeadForms.{Halt, HeadAnswer, deep, head_form, head_step, no_value, none, value};
 ghost use Rattle.cdle_model.specs.Machine.{answered};
 ghost use Rattle.cdle_model.specs.Steps.{IsSignature, Joined, Meets, Step};
@@ -36,9 +36,11 @@ pub fn erasure_commutes()
     ensures put { (at : ℕ) (a t : Tree) → erased (put_written at a t) ≡ put at (erased a) (erased t) }
 {}
 
-/// The erasure of a term is a pure term, that of a type a guide, that of a kind a guide kind; an erased tree has an erasure and is it.
+/// The erasure of a term is a pure term, that of a type a guide, that of a kind a guide kind. The variable of an `xlam` is never in its
+/// body's erasure. An erased tree has an erasure and is it.
 pub fn erasure_keeps_classes()
     ensures classes { (vs xs : List Sort) (c : TreeClass) (t : Tree) → Fits (within vs xs) c t → HasErasure t → Fits (within vs xs) (erased_class c) (erased t) }
+    ensures xlam_lacks { (vs xs : List Sort) (k t : Tree) → Fits (within vs xs) terms (xlam k t) → HasErasure t → lacks 0 (erased t) ≡ true }
     ensures itself { (vs xs : List Sort) (c : TreeClass) (t : Tree) → IsErased c → Fits (within vs xs) c t → HasErasure t × (erased t ≡ t) }
 {}
 
