@@ -8,7 +8,7 @@ use Rattle.cdle_model.specs.Machine.{Outcome, answered, spent, run}
 use Rattle.cdle_model.specs.HeadForms.{deep, deepest, HeadStep, none, to, blocked, head_step, at, fallen, HeadAnswer, value, no_value, head_move, head_form}
 use Rattle.cdle_model.specs.Comparison.{former, binary_head, head_of, function_of, Answer, same, apart, halted, compare}
 use Rattle.cdle_model.specs.Derivation.{Item, bodies}
-use Rattle.cdle_model.specs.Check.{Reason, Finding, gives, refused, Questions, finds, refuse, halt, ask_same, ask_head, at_part, binder_parts, equation_parts, with_binder, with_equation, unless_deep, by_answer, by_head, answer}
+use Rattle.cdle_model.specs.Check.{Reason, Finding, gives, refused, Questions, finds, refuse, halt, ask_same, ask_head, at_part, binder_parts, equation_parts, unless_deep, by_answer, by_head, answer}
 use Rattle.cdle_model.proofs.Runs.{stops, goes}
 use Rattle.cdle_model.proofs.Rewriting.{linked-join, linked-turn}
 use Rattle.cdle_model.proofs.HeadParts.{form_of, same-form}
@@ -104,7 +104,7 @@ module _ (is : List Item) (g' : ClosedItems is) where
   by_binder Y N f k p w (binary j q r) e u v = u (binder-not (binary j q r) f e refl (λ i. grind arith))
 
   pub tells-binder : (Y : Tree → Type 0) (N : Type 0) (f : Binder) (p : List ℕ) (w : Tree → Reason) (a : Tree) (k : Tree → Tree → Questions)
-      → (((x y : Tree) → Joined (bodies is) a (bind f x y) → ⊥) → N) → ((x y : Tree) → Joined (bodies is) a (bind f x y) → Tells (bodies is) Y N (k x y)) → Tells (bodies is) Y N (with_binder f p w a k)
+      → (((x y : Tree) → Joined (bodies is) a (bind f x y) → ⊥) → N) → ((x y : Tree) → Joined (bodies is) a (bind f x y) → Tells (bodies is) Y N (k x y)) → Tells (bodies is) Y N (ask_head p a (λ b. binder_parts f b k (refuse p (w b))))
   tells-binder Y N f p w a k u v = λ b j e. by_binder Y N f k p (w b) b e (λ z. u (λ x y i. z x y (linked-join (linked-turn j) i))) (λ x y i. v x y (linked-join j i))
 
   by_equation : (Y : Tree → Type 0) (N : Type 0) (k : Tree → Tree → Questions) (p : List ℕ) (w : Reason) (b : Tree) → head_step (bodies is) b ≡ none
@@ -122,7 +122,7 @@ module _ (is : List Item) (g' : ClosedItems is) where
   by_equation Y N k p w (bind f q r) e u v = u (equation-not (bind f q r) e refl (λ i. grind arith))
 
   pub tells-equation : (Y : Tree → Type 0) (N : Type 0) (p : List ℕ) (w : Tree → Reason) (a : Tree) (k : Tree → Tree → Questions)
-      → (((x y : Tree) → Joined (bodies is) a (eq x y) → ⊥) → N) → ((x y : Tree) → Joined (bodies is) a (eq x y) → Tells (bodies is) Y N (k x y)) → Tells (bodies is) Y N (with_equation p w a k)
+      → (((x y : Tree) → Joined (bodies is) a (eq x y) → ⊥) → N) → ((x y : Tree) → Joined (bodies is) a (eq x y) → Tells (bodies is) Y N (k x y)) → Tells (bodies is) Y N (ask_head p a (λ b. equation_parts b k (refuse p (w b))))
   tells-equation Y N p w a k u v = λ b j e. by_equation Y N k p (w b) b e (λ z. u (λ x y i. z x y (linked-join (linked-turn j) i))) (λ x y i. v x y (linked-join j i))
 
   -- the answers

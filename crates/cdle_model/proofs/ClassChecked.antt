@@ -12,7 +12,7 @@ use Rattle.cdle_model.specs.HeadForms.{Halt, deep, deepest, HeadAnswer, value, n
 use Rattle.cdle_model.specs.Comparison.{Answer, same, apart, halted, compare}
 use Rattle.cdle_model.specs.Derivation.{Entry, term_of, type_of, raised, entry, Item, item, Judgement, a_term, a_type, a_kind, true_pure, false_pure}
 use Rattle.cdle_model.specs.Fitting.{IsErased, subject_class, given_class, entry_sort, entry_sorts, EntryFits, ContextFits, BodiesFit, SignatureFits}
-use Rattle.cdle_model.specs.Check.{Reason, erased_use, Finding, gives, halts, Questions, finds, refuse, halt, ask_same, ask_head, at_part, binder_parts, equation_parts, with_binder, with_equation, unless_deep, limited, star_then, found, infer, by_answer, by_head, answer}
+use Rattle.cdle_model.specs.Check.{Reason, erased_use, Finding, gives, halts, Questions, finds, refuse, halt, ask_same, ask_head, at_part, binder_parts, equation_parts, binder_then, has_then, unless_deep, limited, star_then, found, infer, by_answer, by_head, answer}
 use Rattle.cdle_model.proofs.ClassSubstitution.{fits-put, fits-shift, fits-closed}
 use Rattle.cdle_model.proofs.ClassErasure.{has-erasure, lacks-type, erased-fits}
 use Rattle.cdle_model.proofs.ClassSteps.{HeadFits, head-fits, compare-halts}
@@ -99,7 +99,7 @@ module _ (zs : List Sort) (is : List Item) (g : SignatureFits zs is) where
   by_parts Y vs c f b k p w u v l = tt
 
   sound-binder : (Y : Tree → Type 0) (vs : List Sort) (c : TreeClass) (f : Binder) (p : List ℕ) (w : Tree → Reason) (a : Tree) (k : Tree → Tree → Questions) → IsErased c → ((x : Tree) → Fits (within vs zs) c (fun of_pure x) → ⊥) → Fits (within vs zs) c a
-      → ((x y : Tree) → Fits (within vs zs) c (bind f x y) → Sound zs Y (k x y)) → Sound zs Y (with_binder f p w a k)
+      → ((x y : Tree) → Fits (within vs zs) c (bind f x y) → Sound zs Y (k x y)) → Sound zs Y (ask_head p a (λ b. binder_parts f b k (refuse p (w b))))
   sound-binder Y vs c f p w a k e u h l = (vs, c, e, h, λ b v. by_parts Y vs c f b k p (w b) u v l)
 
   by_sides : (Y : Tree → Type 0) (vs : List Sort) (b : Tree) (k : Tree → Tree → Questions) (p : List ℕ) (w : Reason) → Fits (within vs zs) guides b
@@ -109,7 +109,7 @@ module _ (zs : List Sort) (is : List Item) (g : SignatureFits zs is) where
   by_sides Y vs b k p w v l = tt
 
   sound-equation : (Y : Tree → Type 0) (vs : List Sort) (p : List ℕ) (w : Tree → Reason) (a : Tree) (k : Tree → Tree → Questions) → Fits (within vs zs) guides a
-      → ((x y : Tree) → Fits (within vs zs) guides (eq x y) → Sound zs Y (k x y)) → Sound zs Y (with_equation p w a k)
+      → ((x y : Tree) → Fits (within vs zs) guides (eq x y) → Sound zs Y (k x y)) → Sound zs Y (ask_head p a (λ b. equation_parts b k (refuse p (w b))))
   sound-equation Y vs p w a k h l = (vs, guides, tt, h, λ b v. by_sides Y vs b k p (w b) v l)
 
   -- what is found of a tree: it has an erasure, and what is given fits
@@ -119,15 +119,15 @@ module _ (zs : List Sort) (is : List Item) (g : SignatureFits zs is) where
   pub sound-star : (Y : Tree → Type 0) (vs : List Sort) (t : Tree) (i : ℕ) (r k : Questions) → Sound zs (IsFound vs a_type t) r → (HasErasure t → Sound zs Y k) → Sound zs Y (star_then i r k)
   sound-star Y vs t i r k h l = sound-part zs (IsFound vs a_type t) Y i r _ h (λ b x. sound-same vs guide_kinds b star tt x.1 tt (l x.0))
 
-  sound-apply : (Y : Tree → Type 0) (vs : List Sort) (c d : TreeClass) (t u : Tree) (f : Binder) (p q : List ℕ) (v : Tree → Reason) (w : Tree → Tree → Reason) (r r' : Questions) (m : Tree → Tree)
+  sound-apply : (Y : Tree → Type 0) (vs : List Sort) (c d : TreeClass) (t u : Tree) (f : Binder) (v : Tree → Reason) (w : Tree → Tree → Reason) (r r' : Questions) (m : Tree → Tree)
       → IsErased c → IsErased d → ((x : Tree) → Fits (within vs zs) c (fun of_pure x) → ⊥)
       → Sound zs (λ a. HasErasure t × Fits (within vs zs) c a) r → Sound zs (λ a. HasErasure u × Fits (within vs zs) d a) r'
       → ((x y : Tree) → Fits (within vs zs) c (bind f x y) → Fits (within vs zs) d x)
       → (HasErasure t → HasErasure u → (x y : Tree) → Fits (within vs zs) c (bind f x y) → Y (m y))
-      → Sound zs Y (at_part 1 r (λ a. with_binder f p v a (λ x y. at_part 2 r' (λ x'. ask_same q (w x' x) x' x (limited (m y))))))
-  sound-apply Y vs c d t u f p q v w r r' m e e' no_fn h k dom last =
+      → Sound zs Y (binder_then 1 f v r (λ x y. has_then 2 (λ d'. w d' x) r' x (limited (m y))))
+  sound-apply Y vs c d t u f v w r r' m e e' no_fn h k dom last =
       sound-part zs (λ a. HasErasure t × Fits (within vs zs) c a) Y 1 r _ h
-      (λ a x. sound-binder Y vs c f p v a _ e no_fn x.1
+      (λ a x. sound-binder Y vs c f (1 ∷ []) v a _ e no_fn x.1
       (λ y z l. sound-part zs (λ b. HasErasure u × Fits (within vs zs) d b) Y 2 r' _ k
       (λ y' x'. sound-same vs d y' y e' x'.1 (dom y z l) (sound-deep zs Y (m z) (finds (m z)) (last x.0 x'.0 y z l)))))
 
@@ -182,11 +182,11 @@ module _ (zs : List Sort) (is : List Item) (g : SignatureFits zs is) where
   sound a_term c (lam a t) w h = sound-star (IsFound (V c) a_term (lam a t)) (V c) a 1 _ _ (sound a_type c a w h.0) (λ ea. sound-part zs (IsFound (V (term_of (erased a) ∷ c)) a_term t) (IsFound (V c) a_term (lam a t)) 2 _ _ (sound a_term (term_of (erased a) ∷ c) t (er-type (V c) a h.0 ea, w) h.1) (λ b x. sound-deep zs (IsFound (V c) a_term (lam a t)) (pi (erased a) b) (finds (pi (erased a) b)) ((ea, x.0), (er-type (V c) a h.0 ea, x.1))))
   sound a_term c (elam a t) w h = sound-star (IsFound (V c) a_term (elam a t)) (V c) a 1 _ _ (sound a_type c a w h.0) (λ ea. sound-part zs (IsFound (V (term_of (erased a) ∷ c)) a_term t) (IsFound (V c) a_term (elam a t)) 2 _ _ (sound a_term (term_of (erased a) ∷ c) t (er-type (V c) a h.0 ea, w) h.1) (λ b x. sound-lacks (IsFound (V c) a_term (elam a t)) t _ (λ l. sound-deep zs (IsFound (V c) a_term (elam a t)) (all (erased a) b) (finds (all (erased a) b)) ((ea, x.0, l), (er-type (V c) a h.0 ea, x.1)))))
   sound a_term c (xlam a t) w h = sound-part zs (IsFound (V c) a_kind a) (IsFound (V c) a_term (xlam a t)) 1 _ _ (sound a_kind c a w h.0) (λ s ea. sound-part zs (IsFound (V (type_of (erased a) ∷ c)) a_term t) (IsFound (V c) a_term (xlam a t)) 2 _ _ (sound a_term (type_of (erased a) ∷ c) t (er-kind (V c) a h.0 ea.0, w) h.1) (λ b x. sound-deep zs (IsFound (V c) a_term (xlam a t)) (allt (erased a) b) (finds (allt (erased a) b)) ((ea.0, x.0, lacks-type zs (V c) (erased t) (er-term (OfType ∷ V c) t h.1 x.0)), (er-kind (V c) a h.0 ea.0, x.1))))
-  sound a_term c (app t u) w h = sound-apply (IsFound (V c) a_term (app t u)) (V c) guides guides t u pi_of _ _ _ _ _ _ (put 0 (erased u)) tt tt (λ x k. k) (sound a_term c t w h.0) (sound a_term c u w h.1) (λ x y k. k.0) (λ et eu x y k. ((et, eu), put-term (V c) guides (erased u) y tt (er-term (V c) u h.1 eu) k.1))
-  sound a_term c (eapp t u) w h = sound-apply (IsFound (V c) a_term (eapp t u)) (V c) guides guides t u all_of _ _ _ _ _ _ (put 0 (erased u)) tt tt (λ x k. k) (sound a_term c t w h.0) (sound a_term c u w h.1) (λ x y k. k.0) (λ et eu x y k. ((et, eu), put-term (V c) guides (erased u) y tt (er-term (V c) u h.1 eu) k.1))
-  sound a_term c (tapp t u) w h = sound-apply (IsFound (V c) a_term (tapp t u)) (V c) guides guide_kinds t u allt_of _ _ _ _ _ _ (put 0 (erased u)) tt tt (λ x k. k) (sound a_term c t w h.0) (sound a_type c u w h.1) (λ x y k. k.0) (λ et eu x y k. ((et, eu), put-type (V c) guides (erased u) y tt (er-type (V c) u h.1 eu) k.1))
-  sound a_type c (at_ t u) w h = sound-apply (IsFound (V c) a_type (at_ t u)) (V c) guide_kinds guides t u kpi_of _ _ _ _ _ _ (put 0 (erased u)) tt tt (λ x k. k) (sound a_type c t w h.0) (sound a_term c u w h.1) (λ x y k. k.0) (λ et eu x y k. ((et, eu), put-term (V c) guide_kinds (erased u) y tt (er-term (V c) u h.1 eu) k.1))
-  sound a_type c (on t u) w h = sound-apply (IsFound (V c) a_type (on t u)) (V c) guide_kinds guide_kinds t u kpit_of _ _ _ _ _ _ (put 0 (erased u)) tt tt (λ x k. k) (sound a_type c t w h.0) (sound a_type c u w h.1) (λ x y k. k.0) (λ et eu x y k. ((et, eu), put-type (V c) guide_kinds (erased u) y tt (er-type (V c) u h.1 eu) k.1))
+  sound a_term c (app t u) w h = sound-apply (IsFound (V c) a_term (app t u)) (V c) guides guides t u pi_of _ _ _ _ (put 0 (erased u)) tt tt (λ x k. k) (sound a_term c t w h.0) (sound a_term c u w h.1) (λ x y k. k.0) (λ et eu x y k. ((et, eu), put-term (V c) guides (erased u) y tt (er-term (V c) u h.1 eu) k.1))
+  sound a_term c (eapp t u) w h = sound-apply (IsFound (V c) a_term (eapp t u)) (V c) guides guides t u all_of _ _ _ _ (put 0 (erased u)) tt tt (λ x k. k) (sound a_term c t w h.0) (sound a_term c u w h.1) (λ x y k. k.0) (λ et eu x y k. ((et, eu), put-term (V c) guides (erased u) y tt (er-term (V c) u h.1 eu) k.1))
+  sound a_term c (tapp t u) w h = sound-apply (IsFound (V c) a_term (tapp t u)) (V c) guides guide_kinds t u allt_of _ _ _ _ (put 0 (erased u)) tt tt (λ x k. k) (sound a_term c t w h.0) (sound a_type c u w h.1) (λ x y k. k.0) (λ et eu x y k. ((et, eu), put-type (V c) guides (erased u) y tt (er-type (V c) u h.1 eu) k.1))
+  sound a_type c (at_ t u) w h = sound-apply (IsFound (V c) a_type (at_ t u)) (V c) guide_kinds guides t u kpi_of _ _ _ _ (put 0 (erased u)) tt tt (λ x k. k) (sound a_type c t w h.0) (sound a_term c u w h.1) (λ x y k. k.0) (λ et eu x y k. ((et, eu), put-term (V c) guide_kinds (erased u) y tt (er-term (V c) u h.1 eu) k.1))
+  sound a_type c (on t u) w h = sound-apply (IsFound (V c) a_type (on t u)) (V c) guide_kinds guide_kinds t u kpit_of _ _ _ _ (put 0 (erased u)) tt tt (λ x k. k) (sound a_type c t w h.0) (sound a_type c u w h.1) (λ x y k. k.0) (λ et eu x y k. ((et, eu), put-type (V c) guide_kinds (erased u) y tt (er-type (V c) u h.1 eu) k.1))
   sound a_term c (fst t) w h = sound-part zs (IsFound (V c) a_term t) (IsFound (V c) a_term (fst t)) 1 _ _ (sound a_term c t w h) (λ b x. sound-binder (IsFound (V c) a_term (fst t)) (V c) guides iota_of _ _ b _ tt (λ y k. k) x.1 (λ y z k. sound-deep zs (IsFound (V c) a_term (fst t)) (y) (finds (y)) (x.0, k.0)))
   sound a_term c (snd t) w h = sound-part zs (IsFound (V c) a_term t) (IsFound (V c) a_term (snd t)) 1 _ _ (sound a_term c t w h) (λ b x. sound-binder (IsFound (V c) a_term (snd t)) (V c) guides iota_of _ _ b _ tt (λ y k. k) x.1 (λ y z k. sound-deep zs (IsFound (V c) a_term (snd t)) (put 0 (erased t) z) (finds (put 0 (erased t) z)) (x.0, put-term (V c) guides (erased t) z tt (er-term (V c) t h x.0) k.1)))
   sound a_term c (beta p q) w h = sound-deep zs (IsFound (V c) a_term (beta p q)) (eq p p) (finds (eq p p)) ((has-pure (V c) p h.0, has-pure (V c) q h.1), (h.0, h.0))

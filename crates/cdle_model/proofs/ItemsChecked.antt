@@ -32,12 +32,12 @@ module _ (is : List Item) (g : ClosedItems is) where
       part-told a_type a (def_item x a t) 1 _ (λ h. (star, h.0))
       (λ k hk. same-told (def_item x a t) (1 ∷ []) (wrong_kind k (Some star)) k star _ (λ h. uniq is g [] hk h.0)
       (λ k-is. part-told a_term t (def_item x a t) 2 _ (λ h. (erased a, h.1))
-      (λ b hb. same-told (def_item x a t) (2 ∷ []) (mismatch b (erased a)) b (erased a) (finds b) (λ h. uniq is g [] hb h.1)
+      (λ b hb. same-told (def_item x a t) (2 ∷ []) (mismatch b (erased a)) b (erased a) (finds (erased a)) (λ h. uniq is g [] hb h.1)
       (λ b-is. (converted hk k-is, converted hb b-is)))))
   told-item (type_item x k a) =
       part-told a_kind k (type_item x k a) 1 _ (λ h. (star, h.0))
       (λ s hs. part-told a_type a (type_item x k a) 2 _ (λ h. (erased k, h.1))
-      (λ l hl. same-told (type_item x k a) (2 ∷ []) (wrong_kind l (Some (erased k))) l (erased k) (finds l) (λ h. uniq is g [] hl h.1)
+      (λ l hl. same-told (type_item x k a) (2 ∷ []) (wrong_kind l (Some (erased k))) l (erased k) (finds (erased k)) (λ h. uniq is g [] hl h.1)
       (λ l-is. (kind-star hs, converted hl l-is))))
 
 -- the items up to number i have no derivation, of which es are the first

@@ -5,7 +5,7 @@ use Rattle.cdle_model.specs.Forms.{star, kpi, kpit, pi, all, allt, at_, on, iota
 use Rattle.cdle_model.specs.Erasure.{erased}
 use Rattle.cdle_model.specs.Steps.{end, Joined}
 use Rattle.cdle_model.specs.Derivation.{Entry, term_of, type_of, entry, Item, bodies, item, Judgement, a_term, a_type, a_kind, true_pure, false_pure, var_term, name_term, lam_rule, elam_rule, xlam_rule, app_rule, eapp_rule, tapp_rule, pair_rule, fst_rule, snd_rule, beta_rule, rho_rule, phi_rule, delta_rule, var_type, name_type, pi_rule, all_rule, iota_rule, allt_rule, tlam_rule, xtlam_rule, at_rule, on_rule, eq_rule, star_rule, kpi_rule, kpit_rule, Has, by_rule, converted}
-use Rattle.cdle_model.specs.Check.{Reason, erased_use, Questions, finds, refuse, ask_same, at_part, with_binder, with_equation, unless_deep, limited, star_then, found, infer}
+use Rattle.cdle_model.specs.Check.{Reason, not_an_equation, erased_use, Questions, finds, refuse, at_part, binder_then, equation_then, has_then, unless_deep, limited, star_then, found, infer}
 use Rattle.cdle_model.proofs.Rewriting.{linked-join, linked-turn}
 use Rattle.cdle_model.proofs.Equality.{joined-put}
 use Rattle.cdle_model.proofs.UniqueTypes.{bind-parts, two-parts, same-context, types-unique}
@@ -38,14 +38,14 @@ module _ (is : List Item) (g' : ClosedItems is) where
       (λ b l. told-same j c t b star (λ f. x (λ m. f (uniq d l m))) (λ m. y (converted l m)))
 
   -- all that an application owes
-  told-app : (j j' j'' : Judgement) (c : List Entry) (t u z : Tree) (f : Binder) (i : ℕ) (p q : List ℕ) (v : Tree → Reason) (w : Tree → Tree → Reason) (r r' : Questions) (m : Tree → Tree)
+  told-app : (j j' j'' : Judgement) (c : List Entry) (t u z : Tree) (f : Binder) (v : Tree → Reason) (w : Tree → Tree → Reason) (r r' : Questions) (m : Tree → Tree)
       → Told j' c t r → Told j'' c u r'
       → ((b : Tree) → Has is j c z b → (x y : Tree) × Has is j' c t (bind f x y) × Has is j'' c u x)
       → ((x y : Tree) → Has is j' c t (bind f x y) → Has is j'' c u x → Has is j c z (m y))
-      → Told j c z (at_part 1 r (λ a. with_binder f p v a (λ x y. at_part 2 r' (λ x'. ask_same q (w x' x) x' x (limited (m y))))))
-  told-app j j' j'' c t u z f i p q v w r r' m h k inverse onward =
+      → Told j c z (binder_then 1 f v r (λ x y. has_then 2 (λ d. w d x) r' x (limited (m y))))
+  told-app j j' j'' c t u z f v w r r' m h k inverse onward =
       told-part j j' c c t z 1 r _ h (λ no b l. let (x, y, d, e) = inverse b l in no _ d)
-      (λ a ha. tells-binder is g' (Has is j c z) (No j c z) f p v a _
+      (λ a ha. tells-binder is g' (Has is j c z) (No j c z) f (1 ∷ []) v a _
       (λ no b l. let (x, y, d, e) = inverse b l in no x y (uniq c ha d))
       (λ x y a-is. told-part j j'' c c u z 2 r' _ k (λ no b l. let (x, y, d, e) = inverse b l in no _ e)
       (λ x' hx. told-same j c z x' x
@@ -59,18 +59,18 @@ module _ (is : List Item) (g' : ClosedItems is) where
   told-deep j c z a r h = tells-deep (bodies is) (Has is j c z) (No j c z) a r h
 
   -- a part with a form of a binder
-  told-binder : (j j' : Judgement) (c : List Entry) (t z : Tree) (f : Binder) (p : List ℕ) (w : Tree → Reason) (r : Questions) (k : Tree → Tree → Questions) → Told j' c t r
-      → ((b : Tree) → Has is j c z b → (x y : Tree) × Has is j' c t (bind f x y)) → ((x y : Tree) → Has is j' c t (bind f x y) → Told j c z (k x y)) → Told j c z (at_part 1 r (λ a. with_binder f p w a k))
-  told-binder j j' c t z f p w r k h inverse onward =
+  told-binder : (j j' : Judgement) (c : List Entry) (t z : Tree) (f : Binder) (w : Tree → Reason) (r : Questions) (k : Tree → Tree → Questions) → Told j' c t r
+      → ((b : Tree) → Has is j c z b → (x y : Tree) × Has is j' c t (bind f x y)) → ((x y : Tree) → Has is j' c t (bind f x y) → Told j c z (k x y)) → Told j c z (binder_then 1 f w r k)
+  told-binder j j' c t z f w r k h inverse onward =
       told-part j j' c c t z 1 r _ h (λ no b l. no _ (inverse b l).2)
-      (λ a ha. tells-binder is g' (Has is j c z) (No j c z) f p w a k (λ no b l. let (x, y, d) = inverse b l in no x y (uniq c ha d)) (λ x y e. onward x y (converted ha e)))
+      (λ a ha. tells-binder is g' (Has is j c z) (No j c z) f (1 ∷ []) w a k (λ no b l. let (x, y, d) = inverse b l in no x y (uniq c ha d)) (λ x y e. onward x y (converted ha e)))
 
   -- a part with an equation
-  told-equation : (c : List Entry) (i : ℕ) (t z : Tree) (p : List ℕ) (w : Tree → Reason) (r : Questions) (k : Tree → Tree → Questions) → Told a_term c t r
-      → ((b : Tree) → Has is a_term c z b → (x y : Tree) × Has is a_term c t (eq x y)) → ((x y : Tree) → Has is a_term c t (eq x y) → Told a_term c z (k x y)) → Told a_term c z (at_part i r (λ a. with_equation p w a k))
-  told-equation c i t z p w r k h inverse onward =
+  told-equation : (c : List Entry) (i : ℕ) (t z : Tree) (r : Questions) (k : Tree → Tree → Questions) → Told a_term c t r
+      → ((b : Tree) → Has is a_term c z b → (x y : Tree) × Has is a_term c t (eq x y)) → ((x y : Tree) → Has is a_term c t (eq x y) → Told a_term c z (k x y)) → Told a_term c z (equation_then i r k)
+  told-equation c i t z r k h inverse onward =
       told-part a_term a_term c c t z i r _ h (λ no b l. no _ (inverse b l).2)
-      (λ a ha. tells-equation is g' (Has is a_term c z) (No a_term c z) p w a k (λ no b l. let (x, y, d) = inverse b l in no x y (uniq c ha d)) (λ x y e. onward x y (converted ha e)))
+      (λ a ha. tells-equation is g' (Has is a_term c z) (No a_term c z) (i ∷ []) not_an_equation a k (λ no b l. let (x, y, d) = inverse b l in no x y (uniq c ha d)) (λ x y e. onward x y (converted ha e)))
 
   told-lacks : (c : List Entry) (z t : Tree) (k : Questions) → ((b : Tree) → Has is a_term c z b → lacks 0 (erased t) ≡ true) → (lacks 0 (erased t) ≡ true → Told a_term c z k)
       → Told a_term c z (cond (lacks 0 (erased t)) k (refuse [] erased_use))
@@ -112,11 +112,11 @@ module _ (is : List Item) (g' : ClosedItems is) where
   told a_term c (xlam k t) = told-part a_term a_kind c c k (xlam k t) 1 _ _ (told a_kind c k) (λ no b h. no _ (in_xlam h).1)
       (λ s hs. told-part a_term a_term c (type_of (erased k) ∷ c) t (xlam k t) 2 _ _ (told a_term (type_of (erased k) ∷ c) t) (λ no b h. no _ (in_xlam h).2)
       (λ b hb. told-limited a_term c (xlam k t) (allt (erased k) b) (by_rule (xlam_rule (kind-star hs) hb))))
-  told a_term c (app t u) = told-app a_term a_term a_term c t u (app t u) pi_of 1 _ _ _ _ _ _ (put 0 (erased u)) (told a_term c t) (told a_term c u) (λ b h. in_app h) (λ x y h k. by_rule (app_rule h k))
-  told a_term c (eapp t u) = told-app a_term a_term a_term c t u (eapp t u) all_of 1 _ _ _ _ _ _ (put 0 (erased u)) (told a_term c t) (told a_term c u) (λ b h. in_eapp h) (λ x y h k. by_rule (eapp_rule h k))
-  told a_term c (tapp t u) = told-app a_term a_term a_type c t u (tapp t u) allt_of 1 _ _ _ _ _ _ (put 0 (erased u)) (told a_term c t) (told a_type c u) (λ b h. in_tapp h) (λ x y h k. by_rule (tapp_rule h k))
-  told a_term c (fst t) = told-binder a_term a_term c t (fst t) iota_of _ _ _ _ (told a_term c t) (λ b h. in_fst h) (λ x y h. told-limited a_term c (fst t) x (by_rule (fst_rule h)))
-  told a_term c (snd t) = told-binder a_term a_term c t (snd t) iota_of _ _ _ _ (told a_term c t) (λ b h. in_snd h) (λ x y h. told-limited a_term c (snd t) (put 0 (erased t) y) (by_rule (snd_rule h)))
+  told a_term c (app t u) = told-app a_term a_term a_term c t u (app t u) pi_of _ _ _ _ (put 0 (erased u)) (told a_term c t) (told a_term c u) (λ b h. in_app h) (λ x y h k. by_rule (app_rule h k))
+  told a_term c (eapp t u) = told-app a_term a_term a_term c t u (eapp t u) all_of _ _ _ _ (put 0 (erased u)) (told a_term c t) (told a_term c u) (λ b h. in_eapp h) (λ x y h k. by_rule (eapp_rule h k))
+  told a_term c (tapp t u) = told-app a_term a_term a_type c t u (tapp t u) allt_of _ _ _ _ (put 0 (erased u)) (told a_term c t) (told a_type c u) (λ b h. in_tapp h) (λ x y h k. by_rule (tapp_rule h k))
+  told a_term c (fst t) = told-binder a_term a_term c t (fst t) iota_of _ _ _ (told a_term c t) (λ b h. in_fst h) (λ x y h. told-limited a_term c (fst t) x (by_rule (fst_rule h)))
+  told a_term c (snd t) = told-binder a_term a_term c t (snd t) iota_of _ _ _ (told a_term c t) (λ b h. in_snd h) (λ x y h. told-limited a_term c (snd t) (put 0 (erased t) y) (by_rule (snd_rule h)))
   told a_term c (beta p k) = told-limited a_term c (beta p k) (eq p p) (by_rule beta_rule)
   told a_term c (pair t u b) = told-part a_term a_term c c t (pair t u b) 1 _ _ (told a_term c t) (λ no x h. no _ (in_pair h).1)
       (λ a ha. told-star a_term c (term_of a ∷ c) (pair t u b) b 3 _ _ (told a_type (term_of a ∷ c) b)
@@ -125,7 +125,7 @@ module _ (is : List Item) (g' : ClosedItems is) where
       (λ d hd. told-deep a_term c (pair t u b) (put 0 (erased t) (erased b)) _ (told-same a_term c (pair t u b) d (put 0 (erased t) (erased b)) (λ no x h. no (uniq c hd (in_pair h).3))
       (λ d-is. told-same a_term c (pair t u b) (erased t) (erased u) (λ no x h. no (in_pair h).4)
       (λ e-is. told-limited a_term c (pair t u b) (iota a (erased b)) (by_rule (pair_rule ha hb (converted hd d-is) e-is))))))))
-  told a_term c (rho q g a t) = told-equation c 1 q (rho q g a t) _ _ _ _ (told a_term c q) (λ b h. let (x, y, d, e, k, l) = in_rho h in (x, y, d))
+  told a_term c (rho q g a t) = told-equation c 1 q (rho q g a t) _ _ (told a_term c q) (λ b h. let (x, y, d, e, k, l) = in_rho h in (x, y, d))
       (λ x y hq. told-star a_term c c (rho q g a t) a 3 _ _ (told a_type c a) (λ no b h. no (in_rho h).3)
       (λ ha. told-deep a_term c (rho q g a t) (put 0 x g) _ (told-same a_term c (rho q g a t) (erased a) (put 0 x g)
       (λ no b h. let (x1, y1, d, e, k, l) = in_rho h in no (linked-join k (joined-put (bodies is) g'.signed_bodies 0 {p = g} (two-parts is g'.signed_bodies (uniq c d hq)).0 end)))
@@ -133,7 +133,7 @@ module _ (is : List Item) (g' : ClosedItems is) where
       (λ d hd. told-deep a_term c (rho q g a t) (put 0 y g) _ (told-same a_term c (rho q g a t) d (put 0 y g)
       (λ no b h. let (x1, y1, e, e', k, l) = in_rho h in no (linked-join (uniq c hd l) (joined-put (bodies is) g'.signed_bodies 0 {p = g} (two-parts is g'.signed_bodies (uniq c e hq)).1 end)))
       (λ d-is. told-limited a_term c (rho q g a t) (erased a) (by_rule (rho_rule hq ha a-is (converted hd d-is))))))))))
-  told a_term c (phi q t p) = told-equation c 1 q (phi q t p) _ _ _ _ (told a_term c q) (λ b h. let (x, y, z, d, e, k, l) = in_phi h in (x, y, d))
+  told a_term c (phi q t p) = told-equation c 1 q (phi q t p) _ _ (told a_term c q) (λ b h. let (x, y, z, d, e, k, l) = in_phi h in (x, y, d))
       (λ x y hq. told-part a_term a_term c c t (phi q t p) 2 _ _ (told a_term c t) (λ no b h. no _ (in_phi h).4)
       (λ a ha. told-same a_term c (phi q t p) x (erased t)
       (λ no b h. let (x1, y1, z, d, e, k, l) = in_phi h in no (linked-join (two-parts is g'.signed_bodies (uniq c hq d)).0 k))
@@ -141,7 +141,7 @@ module _ (is : List Item) (g' : ClosedItems is) where
       (λ no b h. let (x1, y1, z, d, e, k, l) = in_phi h in no (linked-join (two-parts is g'.signed_bodies (uniq c hq d)).1 l))
       (λ y-is. told-limited a_term c (phi q t p) a (by_rule (phi_rule hq ha x-is y-is))))))
   told a_term c (delta a q) = told-star a_term c c (delta a q) a 1 _ _ (told a_type c a) (λ no b h. no (in_delta h).2)
-      (λ ha. told-equation c 2 q (delta a q) _ _ _ _ (told a_term c q) (λ b h. let (x, y, d, e, k, l) = in_delta h in (x, y, e))
+      (λ ha. told-equation c 2 q (delta a q) _ _ (told a_term c q) (λ b h. let (x, y, d, e, k, l) = in_delta h in (x, y, e))
       (λ x y hq. told-same a_term c (delta a q) x true_pure
       (λ no b h. let (x1, y1, d, e, k, l) = in_delta h in no (linked-join (two-parts is g'.signed_bodies (uniq c hq e)).0 k))
       (λ x-is. told-same a_term c (delta a q) y false_pure
@@ -149,8 +149,8 @@ module _ (is : List Item) (g' : ClosedItems is) where
       (λ y-is. told-limited a_term c (delta a q) (erased a) (by_rule (delta_rule ha hq x-is y-is))))))
   told a_type c (var i) = told-entry_type c i (entry c i) refl
   told a_type c (name i) = told-name_type c i (item is i) refl
-  told a_type c (at_ a t) = told-app a_type a_type a_term c a t (at_ a t) kpi_of 1 _ _ _ _ _ _ (put 0 (erased t)) (told a_type c a) (told a_term c t) (λ b h. in_at h) (λ x y h k. by_rule (at_rule h k))
-  told a_type c (on a t) = told-app a_type a_type a_type c a t (on a t) kpit_of 1 _ _ _ _ _ _ (put 0 (erased t)) (told a_type c a) (told a_type c t) (λ b h. in_on h) (λ x y h k. by_rule (on_rule h k))
+  told a_type c (at_ a t) = told-app a_type a_type a_term c a t (at_ a t) kpi_of _ _ _ _ (put 0 (erased t)) (told a_type c a) (told a_term c t) (λ b h. in_at h) (λ x y h k. by_rule (at_rule h k))
+  told a_type c (on a t) = told-app a_type a_type a_type c a t (on a t) kpit_of _ _ _ _ (put 0 (erased t)) (told a_type c a) (told a_type c t) (λ b h. in_on h) (λ x y h k. by_rule (on_rule h k))
   told a_type c (pi a b) = told-star a_type c c (pi a b) a 1 _ _ (told a_type c a) (λ no x h. no (in_pi h).0)
       (λ ha. told-star a_type c (term_of (erased a) ∷ c) (pi a b) b 2 _ _ (told a_type (term_of (erased a) ∷ c) b) (λ no x h. no (in_pi h).1) (λ hb. by_rule (pi_rule ha hb)))
   told a_type c (all a b) = told-star a_type c c (all a b) a 1 _ _ (told a_type c a) (λ no x h. no (in_all h).0)

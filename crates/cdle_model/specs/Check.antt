@@ -53,12 +53,20 @@ equation_parts (eq p q) k r = k p q
 equation_parts (fun of_pure p) k r = halt ill_classed
 equation_parts a k r = r
 
--- the head form of a type or kind is this binder's, and then the rest of its parts
-abbrev pub with_binder : Binder → List ℕ → (Tree → Reason) → Tree → (Tree → Tree → Questions) → Questions
-with_binder f p w a k = ask_head p a (λ b. binder_parts f b k (refuse p (w b)))
+-- what part i has is a form of this binder, and then the rest with its parts
+abbrev pub binder_then : ℕ → Binder → (Tree → Reason) → Questions → (Tree → Tree → Questions) → Questions
+binder_then i f w q k = at_part i q (λ a. ask_head (i ∷ []) a (λ b. binder_parts f b k (refuse (i ∷ []) (w b))))
 
-abbrev pub with_equation : List ℕ → (Tree → Reason) → Tree → (Tree → Tree → Questions) → Questions
-with_equation p w a k = ask_head p a (λ b. equation_parts b k (refuse p (w b)))
+-- what part i has is an equation, and then the rest with its sides
+abbrev pub equation_then : ℕ → Questions → (Tree → Tree → Questions) → Questions
+equation_then i q k = at_part i q (λ a. ask_head (i ∷ []) a (λ b. equation_parts b k (refuse (i ∷ []) (not_an_equation b))))
+
+-- part i has this type or kind, and then the rest
+abbrev pub has_then : ℕ → (Tree → Reason) → Questions → Tree → Questions → Questions
+has_then i w q a k = at_part i q (λ b. ask_same (i ∷ []) (w b) b a k)
+
+abbrev pub star_then : ℕ → Questions → Questions → Questions
+star_then i q k = has_then i (λ a. wrong_kind a (Some star)) q star k
 
 -- the rest, where a tree that a rule gives or puts a part in is not too deep
 abbrev pub unless_deep : Tree → Questions → Questions
@@ -66,10 +74,6 @@ unless_deep a q = cond (ltb deepest (depth a)) (halt deep) q
 
 abbrev pub limited : Tree → Questions
 limited a = unless_deep a (finds a)
-
--- part i has the kind `*`, and then the rest
-abbrev pub star_then : ℕ → Questions → Questions → Questions
-star_then i q k = at_part i q (λ a. ask_same (i ∷ []) (wrong_kind a (Some star)) a star k)
 
 -- what is known of a variable or a name of this class
 abbrev pub found : Judgement → Option Entry → Questions
@@ -87,25 +91,25 @@ module _ (is : List Item) where
   infer a_term c (elam a t) = star_then 1 (infer a_type c a) (at_part 2 (infer a_term (term_of (erased a) ∷ c) t) (λ b.
       cond (lacks 0 (erased t)) (limited (all (erased a) b)) (refuse [] erased_use)))
   infer a_term c (xlam k t) = at_part 1 (infer a_kind c k) (λ s. at_part 2 (infer a_term (type_of (erased k) ∷ c) t) (λ b. limited (allt (erased k) b)))
-  infer a_term c (app t u) = at_part 1 (infer a_term c t) (λ f. with_binder pi_of (1 ∷ []) not_a_function f (λ a b.
-      at_part 2 (infer a_term c u) (λ a'. ask_same (2 ∷ []) (mismatch a' a) a' a (limited (put 0 (erased u) b)))))
-  infer a_term c (eapp t u) = at_part 1 (infer a_term c t) (λ f. with_binder all_of (1 ∷ []) not_a_function f (λ a b.
-      at_part 2 (infer a_term c u) (λ a'. ask_same (2 ∷ []) (mismatch a' a) a' a (limited (put 0 (erased u) b)))))
-  infer a_term c (tapp t u) = at_part 1 (infer a_term c t) (λ f. with_binder allt_of (1 ∷ []) not_a_function f (λ k b.
-      at_part 2 (infer a_type c u) (λ k'. ask_same (2 ∷ []) (wrong_kind k' (Some k)) k' k (limited (put 0 (erased u) b)))))
-  infer a_term c (fst t) = at_part 1 (infer a_term c t) (λ f. with_binder iota_of (1 ∷ []) not_an_intersection f (λ a b. limited a))
-  infer a_term c (snd t) = at_part 1 (infer a_term c t) (λ f. with_binder iota_of (1 ∷ []) not_an_intersection f (λ a b. limited (put 0 (erased t) b)))
+  infer a_term c (app t u) = binder_then 1 pi_of not_a_function (infer a_term c t) (λ a b.
+      has_then 2 (λ d. mismatch d a) (infer a_term c u) a (limited (put 0 (erased u) b)))
+  infer a_term c (eapp t u) = binder_then 1 all_of not_a_function (infer a_term c t) (λ a b.
+      has_then 2 (λ d. mismatch d a) (infer a_term c u) a (limited (put 0 (erased u) b)))
+  infer a_term c (tapp t u) = binder_then 1 allt_of not_a_function (infer a_term c t) (λ k b.
+      has_then 2 (λ l. wrong_kind l (Some k)) (infer a_type c u) k (limited (put 0 (erased u) b)))
+  infer a_term c (fst t) = binder_then 1 iota_of not_an_intersection (infer a_term c t) (λ a b. limited a)
+  infer a_term c (snd t) = binder_then 1 iota_of not_an_intersection (infer a_term c t) (λ a b. limited (put 0 (erased t) b))
   infer a_term c (beta p k) = limited (eq p p)
   infer a_term c (pair t u b) = at_part 1 (infer a_term c t) (λ a. star_then 3 (infer a_type (term_of a ∷ c) b)
       (at_part 2 (infer a_term c u) (λ d. unless_deep (put 0 (erased t) (erased b)) (ask_same (2 ∷ []) (mismatch d (put 0 (erased t) (erased b))) d (put 0 (erased t) (erased b))
       (ask_same [] (parts_differ (erased t) (erased u)) (erased t) (erased u) (limited (iota a (erased b))))))))
-  infer a_term c (rho q g a t) = at_part 1 (infer a_term c q) (λ e. with_equation (1 ∷ []) not_an_equation e (λ x y.
-      star_then 3 (infer a_type c a) (unless_deep (put 0 x g) (ask_same [] (sides_differ (erased a) (put 0 x g)) (erased a) (put 0 x g)
-      (at_part 4 (infer a_term c t) (λ d. unless_deep (put 0 y g) (ask_same (4 ∷ []) (mismatch d (put 0 y g)) d (put 0 y g) (limited (erased a)))))))))
-  infer a_term c (phi q t p) = at_part 1 (infer a_term c q) (λ e. with_equation (1 ∷ []) not_an_equation e (λ x y.
-      at_part 2 (infer a_term c t) (λ a. ask_same [] (sides_differ (eq x x) (eq (erased t) (erased t))) x (erased t) (ask_same [] (sides_differ (eq y y) (eq p p)) y p (limited a)))))
-  infer a_term c (delta a q) = star_then 1 (infer a_type c a) (at_part 2 (infer a_term c q) (λ e. with_equation (2 ∷ []) not_an_equation e (λ x y.
-      ask_same [] (not_booleans x y) x true_pure (ask_same [] (not_booleans x y) y false_pure (limited (erased a))))))
+  infer a_term c (rho q g a t) = equation_then 1 (infer a_term c q) (λ x y. star_then 3 (infer a_type c a)
+      (unless_deep (put 0 x g) (ask_same [] (sides_differ (erased a) (put 0 x g)) (erased a) (put 0 x g)
+      (at_part 4 (infer a_term c t) (λ d. unless_deep (put 0 y g) (ask_same (4 ∷ []) (mismatch d (put 0 y g)) d (put 0 y g) (limited (erased a))))))))
+  infer a_term c (phi q t p) = equation_then 1 (infer a_term c q) (λ x y. at_part 2 (infer a_term c t) (λ a.
+      ask_same [] (sides_differ (eq x x) (eq (erased t) (erased t))) x (erased t) (ask_same [] (sides_differ (eq y y) (eq p p)) y p (limited a))))
+  infer a_term c (delta a q) = star_then 1 (infer a_type c a) (equation_then 2 (infer a_term c q) (λ x y.
+      ask_same [] (not_booleans x y) x true_pure (ask_same [] (not_booleans x y) y false_pure (limited (erased a)))))
   -- types
   infer a_type c (var i) = found a_type (entry c i)
   infer a_type c (name m) = found a_type (item is m)
@@ -115,21 +119,21 @@ module _ (is : List Item) where
   infer a_type c (allt k b) = at_part 1 (infer a_kind c k) (λ s. star_then 2 (infer a_type (type_of (erased k) ∷ c) b) (finds star))
   infer a_type c (tlam a b) = star_then 1 (infer a_type c a) (at_part 2 (infer a_type (term_of (erased a) ∷ c) b) (λ k. limited (kpi (erased a) k)))
   infer a_type c (xtlam k b) = at_part 1 (infer a_kind c k) (λ s. at_part 2 (infer a_type (type_of (erased k) ∷ c) b) (λ l. limited (kpit (erased k) l)))
-  infer a_type c (at_ a t) = at_part 1 (infer a_type c a) (λ f. with_binder kpi_of (1 ∷ []) (λ z. wrong_kind z None) f (λ b k.
-      at_part 2 (infer a_term c t) (λ b'. ask_same (2 ∷ []) (mismatch b' b) b' b (limited (put 0 (erased t) k)))))
-  infer a_type c (on a t) = at_part 1 (infer a_type c a) (λ f. with_binder kpit_of (1 ∷ []) (λ z. wrong_kind z None) f (λ b k.
-      at_part 2 (infer a_type c t) (λ b'. ask_same (2 ∷ []) (wrong_kind b' (Some b)) b' b (limited (put 0 (erased t) k)))))
+  infer a_type c (at_ a t) = binder_then 1 kpi_of (λ k. wrong_kind k None) (infer a_type c a) (λ b k.
+      has_then 2 (λ d. mismatch d b) (infer a_term c t) b (limited (put 0 (erased t) k)))
+  infer a_type c (on a b) = binder_then 1 kpit_of (λ k. wrong_kind k None) (infer a_type c a) (λ k l.
+      has_then 2 (λ m. wrong_kind m (Some k)) (infer a_type c b) k (limited (put 0 (erased b) l)))
   infer a_type c (eq p q) = finds star
   -- kinds
   infer a_kind c star = finds star
   infer a_kind c (kpi a k) = star_then 1 (infer a_type c a) (at_part 2 (infer a_kind (term_of (erased a) ∷ c) k) (λ s. finds star))
-  infer a_kind c (kpit k l) = at_part 1 (infer a_kind c k) (λ s. at_part 2 (infer a_kind (type_of (erased k) ∷ c) l) (λ t. finds star))
+  infer a_kind c (kpit k l) = at_part 1 (infer a_kind c k) (λ s. at_part 2 (infer a_kind (type_of (erased k) ∷ c) l) (λ m. finds star))
   infer j c t = halt ill_classed
 
   -- an item over the items of the signature: its written type has `*` or its written kind is one, and its body has it
   abbrev pub infer_item : Written → Questions
-  infer_item (def_item x a t) = star_then 1 (infer a_type [] a) (at_part 2 (infer a_term [] t) (λ b. ask_same (2 ∷ []) (mismatch b (erased a)) b (erased a) (finds b)))
-  infer_item (type_item x k a) = at_part 1 (infer a_kind [] k) (λ s. at_part 2 (infer a_type [] a) (λ l. ask_same (2 ∷ []) (wrong_kind l (Some (erased k))) l (erased k) (finds l)))
+  infer_item (def_item x a t) = star_then 1 (infer a_type [] a) (has_then 2 (λ b. mismatch b (erased a)) (infer a_term [] t) (erased a) (finds (erased a)))
+  infer_item (type_item x k a) = at_part 1 (infer a_kind [] k) (λ s. has_then 2 (λ l. wrong_kind l (Some (erased k))) (infer a_type [] a) (erased k) (finds (erased k)))
 
 -- what is found with a number of units: a type or kind, or a refusal at a path, or a path at which the units are spent, or the end
 pub data Finding : Type 0 where

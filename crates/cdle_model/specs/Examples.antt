@@ -1,7 +1,7 @@
 -- Items to check, each written out in Core text above its trees.
 use Rattle.std.specs.Prelude.{ℕ, zero, suc, List, [], ◌∷◌}
 use Rattle.cdle_model.specs.Trees.{Tree, var, name}
-use Rattle.cdle_model.specs.Forms.{star, kpit, pi, all, allt, xtlam, on, iota, eq, fn, ap, lam, elam, xlam, app, pair, fst, beta, rho, phi, delta, Written, def_item, type_item}
+use Rattle.cdle_model.specs.Forms.{star, kpit, pi, all, allt, xtlam, on, iota, eq, fn, ap, lam, elam, xlam, app, pair, beta, rho, delta, Written, def_item, type_item}
 
 -- the name `a`
 abbrev named : Tree → Tree → Written
