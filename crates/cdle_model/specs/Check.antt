@@ -191,8 +191,6 @@ check_after n es (w ∷ ws) = by_name (length es) (first_of (name_of w) es) (by_
 abbrev pub check_items : ℕ → List Written → ListVerdict
 check_items n = check_after n []
 
--- ---- where a check with more units is undecided
-
 -- the questions before one at path p pass with m units, and that one is spent with n
 abbrev pub SpentAfter : List Tree → ℕ → ℕ → List ℕ → Questions → Type 0
 SpentAfter s n m p (ask_same p' w a b q) = (p' ≡ p) × (compare s n a b ≡ spent) ⊎ ((left : ℕ) × (compare s m a b ≡ answered same left)) × SpentAfter s n m p q

@@ -5,8 +5,6 @@ use Rattle.cdle_model.specs.Trees.{Function, of_pure, Function-discrete, Leaf, L
 use Rattle.cdle_model.specs.Machine.{Move, stop, go, Outcome, run}
 use Rattle.cdle_model.specs.HeadForms.{Halt, ill_classed, HeadStep, none, to, blocked, head_step}
 
--- ---- the heads and the parts of head forms
-
 -- what a head form has at its head: a variable with the classes of its arguments, or a former
 -- (a name is there only where the signature does not have it)
 pub data Head : Type 0 where
@@ -56,8 +54,6 @@ parts_of (apply c p q) = parts_by (head_of p) (parts_of p) p q
 parts_of (binary j p q) = p ∷ q ∷ []
 parts_of (bind f p q) = p ∷ q ∷ []
 
--- ---- what is compared in place of two head forms
-
 abbrev pub Pair : Type 0
 Pair = Tree × Tree
 
@@ -102,8 +98,6 @@ split_by None None a b = same_heads (head_of a) (head_of b) (pairs_of (parts_of 
 -- two functions: their bodies; a function against another form: its body against that form applied; else the parts, where the heads are one
 abbrev pub split : Tree → Tree → Split
 split a b = split_by (function_of a) (function_of b) a b
-
--- ---- the comparison
 
 -- the two are the same; they are apart at this pair of head forms; or the end
 pub data Answer : Type 0 where
