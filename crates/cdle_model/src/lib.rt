@@ -1,8 +1,9 @@
 //! Core's definitions, and their laws: what the contracts of all the crates above cite.
 //!
-//! `specs/` has the definitions, in the subject's order: trees, their classes and erasure, steps and equality, derivations; then Core
-//! text, and the reports of the program. Each law is the contract of a function of `laws.rt` whose body is empty, and so is proved at
-//! every check. The crate stands on nothing, and no code runs here but the few plain types that definitions and code both name.
+//! `specs/` has the definitions, in the subject's order: trees, their classes and erasure, steps and equality, derivations, head forms and
+//! comparison with a number of units, the plain check; then Core text, and the reports of the program. Each law is the contract of a
+//! function of `core_laws.rt` or `laws.rt` whose body is empty, and so is proved at every check, and `core_examples.rt` has worked lists of
+//! items. The crate stands on nothing, and no code runs here but the few plain types that definitions and code both name.
 #![tactic(auto)]
 
 mod core_examples;
