@@ -1,0 +1,146 @@
+//! The real folder and the real output: nothing is told of what they hold.
+ghost use Rattle.std.specs.Prelude.{◌≡◌, None, IfOk, string_bytes};
+ghost use Rattle.cdle_folder.specs.Real.{TakesAll, path_in};
+
+use crate::outside::{Folder, PutFailed, ReadStop, Sink};
+use std::alloc::{AllocError, Global};
+use std::fs;
+use std::io::{ErrorKind, Print, Read};
+use std::rt::Files;
+
+/// The files of a folder of the system.
+#[derive(Drop)]
+pub struct DirFolder<'a, R: Files> {
+    rt: &'a R,
+    dir: String,
+    read_faults: u64,
+    absences: u64,
+}
+
+impl<'a, R: Files> DirFolder<'a, R> {
+    /// The folder of that name. A name of a file that begins with `/` stays as it is.
+    pub fn new(rt: &'a R, dir: String) -> DirFolder<'a, R> {
+        DirFolder {
+            rt,
+            dir,
+            read_faults: 0,
+            absences: 0,
+        }
+    }
+}
+
+// An absolute name stays as it is.
+fn path_of(alloc: Global, dir: &str, name: &str) -> Result<String, AllocError>
+    ensures { IfOk result (λ path. string_bytes path ≡ path_in dir.now name.now) }
+{
+    if dir.is_empty() || name.starts_with('/') {
+        String::from_str(alloc, name)
+    } else {
+        format!(in alloc; "{dir}/{name}")
+    }
+}
+
+enum Taken {
+    Bytes(Vec<u8>),
+    TooLong,
+    Failed,
+    NoMemory,
+}
+
+// All that the file gives, where it gives at most `limit` bytes. A source that gives nothing has ended.
+fn take_all<F: Read>(alloc: Global, file: &mut F, limit: u64) -> Taken
+    ensures { TakesAll limit (F.remaining file.old) (F.remaining file.new) result }
+{
+    let mut bytes = Vec::new(alloc);
+    let mut chunk = [0u8; 4096];
+    while bytes.len() as u64 <= limit {
+        match file.read(&mut chunk) {
+            Ok(0) => return Taken::Bytes(bytes),
+            Ok(count) => {
+                if bytes.extend_from_slice(&chunk[..count]).is_err() {
+                    return Taken::NoMemory;
+                }
+            }
+            Err(_) => return Taken::Failed,
+        }
+    }
+    Taken::TooLong
+}
+
+impl<'a, R: Files> Folder for DirFolder<'a, R> {
+    ghost files = { λ s. None };
+
+    ghost given = { λ s. None };
+
+    ghost read_faults = { λ s. s.read_faults };
+
+    ghost absences = { λ s. s.absences };
+
+    /// An absence is counted where the system says that the name does not exist. A folder's name, and a path whose middle is a plain
+    /// file, are faults.
+    fn read(&mut self, alloc: Global, name: &str, limit: u64) -> Result<Vec<u8>, ReadStop> {
+        let Ok(path) = path_of(alloc, self.dir.as_str(), name) else {
+            return Err(ReadStop::NoMemory);
+        };
+        let mut file = match fs::open(self.rt, path.as_str()) {
+            Ok(file) => file,
+            Err(error) => {
+                if error.kind() == ErrorKind::NotFound {
+                    self.absences = self.absences.saturating_add(1);
+                    return Err(ReadStop::Absent);
+                }
+                self.read_faults = self.read_faults.saturating_add(1);
+                return Err(ReadStop::Failed);
+            }
+        };
+        match take_all(alloc, &mut file, limit) {
+            Taken::Bytes(bytes) => Ok(bytes),
+            Taken::TooLong => Err(ReadStop::TooLong),
+            Taken::NoMemory => Err(ReadStop::NoMemory),
+            Taken::Failed => {
+                self.read_faults = self.read_faults.saturating_add(1);
+                Err(ReadStop::Failed)
+            }
+        }
+    }
+}
+
+/// The standard output.
+#[derive(Drop)]
+pub struct StdSink<'a, R: Print> {
+    rt: &'a R,
+    faults: u64,
+}
+
+impl<'a, R: Print> StdSink<'a, R> {
+    /// The output of that runtime.
+    pub fn new(rt: &'a R) -> StdSink<'a, R> {
+        StdSink { rt, faults: 0 }
+    }
+}
+
+// Prints all the bytes, or answers that it failed. An output that takes nothing has failed.
+fn print_all<R: Print>(rt: &R, bytes: &[u8]) -> bool {
+    let mut at = 0;
+    while at < bytes.len() {
+        match rt.write_some(&bytes[at..]) {
+            Ok(0) | Err(_) => return false,
+            Ok(count) => at += count,
+        }
+    }
+    true
+}
+
+impl<'a, R: Print> Sink for StdSink<'a, R> {
+    ghost written = { λ s. None };
+
+    ghost faults = { λ s. s.faults };
+
+    fn put(&mut self, bytes: &[u8]) -> Result<(), PutFailed> {
+        if print_all(self.rt, bytes) {
+            return Ok(());
+        }
+        self.faults = self.faults.saturating_add(1);
+        Err(PutFailed)
+    }
+}

@@ -1,0 +1,66 @@
+//! A folder in memory that never fails.
+ghost use Rattle.std.specs.Prelude.{◌≡◌, Some, None, OnOk, OnErr, option_map};
+ghost use Rattle.cdle_folder.specs.Files.{no_files, with_file};
+ghost use Rattle.cdle_folder.specs.Memory.{files_in};
+
+use crate::memory::{look, put_file};
+use crate::outside::{Folder, ReadStop};
+use cdle_model::NoMemory;
+use std::alloc::Global;
+use std::collections::BTreeMap;
+
+/// Files in memory. Its count of faults is 0.
+#[derive(Debug, Drop)]
+pub struct SureFolder {
+    alloc: Global,
+    files: BTreeMap<String, Vec<u8>>,
+    absences: u64,
+}
+
+impl SureFolder {
+    /// No files.
+    pub fn new(alloc: Global) -> SureFolder
+        ensures files { ⟦<SureFolder as Folder>⟧.files result ≡ Some no_files }
+        ensures absences { ⟦<SureFolder as Folder>⟧.absences result ≡ 0 }
+    {
+        SureFolder {
+            alloc,
+            files: BTreeMap::new(alloc),
+            absences: 0,
+        }
+    }
+
+    /// Puts a file there, over one of that name.
+    pub fn add(&mut self, name: &str, bytes: &[u8]) -> Result<(), NoMemory>
+        ensures added { OnOk result (⟦<SureFolder as Folder>⟧.files self.new
+            ≡ option_map (with_file name.now bytes.now) (⟦<SureFolder as Folder>⟧.files self.old)) }
+        ensures same { OnErr result (⟦<SureFolder as Folder>⟧.files self.new ≡ ⟦<SureFolder as Folder>⟧.files self.old) }
+        ensures absences { ⟦<SureFolder as Folder>⟧.absences self.new ≡ ⟦<SureFolder as Folder>⟧.absences self.old }
+    {
+        put_file(self.alloc, &mut self.files, name, bytes).map_err(|_| NoMemory)
+    }
+}
+
+impl Folder for SureFolder {
+    ghost files = { λ s. Some (files_in s.files) };
+
+    ghost given = { λ s. None };
+
+    ghost read_faults = { λ s. 0 };
+
+    ghost absences = { λ s. s.absences };
+
+    fn read(&mut self, alloc: Global, name: &str, limit: u64) -> Result<Vec<u8>, ReadStop> {
+        let Some(file) = look(&self.files, name) else {
+            self.absences = self.absences.saturating_add(1);
+            return Err(ReadStop::Absent);
+        };
+        if limit < file.len() as u64 {
+            return Err(ReadStop::TooLong);
+        }
+        match file.as_slice().to_vec(alloc) {
+            Ok(bytes) => Ok(bytes),
+            Err(_) => Err(ReadStop::NoMemory),
+        }
+    }
+}

@@ -1,0 +1,237 @@
+//! Reading parts and items from the left.
+ghost use Rattle.std.specs.Prelude.{◌≡◌, ◌+◌, ◌<◌, ◌≤◌, ◌^◌, ◌++◌, length, IfOk};
+ghost use Rattle.std.specs.Str.{IsCharBoundary, IsUtf8};
+ghost use Rattle.cdle_model.specs.CoreReading.{leaf, part_at, form_with, item_at};
+ghost use Rattle.cdle_model.specs.Depth.{depth};
+ghost use Rattle.core_tree.specs.Items.{written};
+ghost use Rattle.core_text.specs.View.{rest, Gives, Advances};
+ghost use Rattle.core_text.specs.Parts.{part_tree, class_of};
+ghost use Rattle.core_text.specs.Scope.{names, known_names, scope_of};
+
+use crate::binders::{Binders, Meaning, find};
+use crate::error::CoreTextFault;
+use crate::forms::{opens, pieces_of, wanted_of};
+use crate::part::{Part, build};
+use crate::scope::CoreScope;
+use crate::token::{Lexeme, next};
+use crate::words::{bad, close_of, form_word, name_of, open_of, sort_of, too_deep};
+use cdle_model::{Class, CoreWanted, Piece, Sort, Text};
+use core_tree::{CoreItem, Kind, Term, Ty};
+use std::alloc::Global;
+
+/// How many parentheses may open inside an item's own.
+const INSIDE_ITEM: usize = 1023;
+
+/// What reading goes by: the text, the earlier items of the file and of other files, and where memory comes from.
+#[derive(Clone, Copy)]
+pub(crate) struct Reader<'a> {
+    pub(crate) alloc: Global,
+    pub(crate) bytes: &'a [u8],
+    pub(crate) own: &'a CoreScope,
+    pub(crate) known: &'a CoreScope,
+}
+
+impl<'a> Reader<'a> {
+    /// A part that is one word.
+    #[tactic(auto, unfolding(cdle_model::specs::CoreReading::leaf))]
+    fn leaf(
+        &self,
+        binders: &Binders<'_>,
+        class: Class,
+        word: &[u8],
+        at: usize,
+    ) -> Result<Part, CoreTextFault>
+        requires nested { length (names binders.now) ≤ 1024 }
+        requires counted { length (known_names self.now.own.now) + length (known_names self.now.known.now) < 2 ^ 32 }
+        requires short { at < 2 ^ 32 }
+        ensures gives { (ts : _) → Gives (λ x. (part_tree x, ts)) result (leaf at (scope_of binders.now self.now.own.now self.now.known.now) class word.now ts) }
+        ensures class { IfOk result (λ x. class_of x ≡ class) }
+        ensures shallow { IfOk result (λ x. depth (part_tree x) ≡ 0) }
+    {
+        let star = word == b"*".as_slice();
+        match class {
+            Class::Kind => {
+                if !star {
+                    return Err(bad(at, CoreWanted::Kind));
+                }
+                Ok(Part::Kind(Kind::star(self.alloc)?))
+            }
+            Class::Ty => {
+                if star {
+                    return Err(bad(at, CoreWanted::Ty));
+                }
+                match find(binders, self.own, self.known, word) {
+                    None => Err(CoreTextFault::Unbound { at: at as u32 }),
+                    Some((Sort::OfTerm, _)) => Err(CoreTextFault::WrongClass { at: at as u32 }),
+                    Some((Sort::OfType, Meaning::Var(index))) => {
+                        Ok(Part::Ty(Ty::var(self.alloc, index)?))
+                    }
+                    Some((Sort::OfType, Meaning::Name(number))) => {
+                        Ok(Part::Ty(Ty::name(self.alloc, number)?))
+                    }
+                }
+            }
+            Class::Term => {
+                if star {
+                    return Err(bad(at, CoreWanted::Term));
+                }
+                match find(binders, self.own, self.known, word) {
+                    None => Err(CoreTextFault::Unbound { at: at as u32 }),
+                    Some((Sort::OfType, _)) => Err(CoreTextFault::WrongClass { at: at as u32 }),
+                    Some((Sort::OfTerm, Meaning::Var(index))) => {
+                        Ok(Part::Term(Term::var(self.alloc, index)?))
+                    }
+                    Some((Sort::OfTerm, Meaning::Name(number))) => {
+                        Ok(Part::Term(Term::name(self.alloc, number)?))
+                    }
+                }
+            }
+        }
+    }
+
+    /// A part of a class, inside which so many parentheses may still open.
+    #[cycle(part)]
+    #[tactic(auto, unfolding(cdle_model::specs::CoreReading::part_with), using(crate::proofs::Pieces::inside_rules))]
+    pub(crate) fn part(
+        &self,
+        left: usize,
+        binders: &Binders<'_>,
+        class: Class,
+        from: usize,
+    ) -> Result<(Part, usize), CoreTextFault>
+        requires utf8 { IsUtf8 self.now.bytes.now }
+        requires start { IsCharBoundary self.now.bytes.now from }
+        requires short { length self.now.bytes.now < 2 ^ 32 }
+        requires counted { length (known_names self.now.own.now) + length (known_names self.now.known.now) < 2 ^ 32 }
+        requires nested { length (names binders.now) + left ≤ 1024 }
+        ensures gives { Gives (λ x. (part_tree x.0, rest self.now.bytes.now x.1)) result
+            (part_at (length self.now.bytes.now) left (scope_of binders.now self.now.own.now self.now.known.now) class (rest self.now.bytes.now from)) }
+        ensures advances { IfOk result (λ x. Advances self.now.bytes.now from x.1) }
+        ensures class { IfOk result (λ x. class_of x.0 ≡ class) }
+        ensures shallow { IfOk result (λ x. depth (part_tree x.0) ≤ left) }
+    {
+        let token = match next(self.bytes, from) {
+            None => return Err(bad(self.bytes.len(), wanted_of(class))),
+            Some(token) => token,
+        };
+        match token.lexeme {
+            Lexeme::Word(word) => {
+                let part = self.leaf(binders, class, word, token.at)?;
+                Ok((part, token.end))
+            }
+            Lexeme::Closes => Err(bad(token.at, wanted_of(class))),
+            Lexeme::Opens => {
+                if left == 0 {
+                    return Err(too_deep(token.at));
+                }
+                if !opens(class) {
+                    return Err(bad(token.at, wanted_of(class)));
+                }
+                self.form(left - 1, binders, class, token.end)
+            }
+        }
+    }
+
+    /// What stands behind a parenthesis, with its closing.
+    #[cycle(part)]
+    #[tactic(auto, unfolding(cdle_model::specs::CoreReading::form_with), using(crate::proofs::Pieces::shallow_rules))]
+    fn form(
+        &self,
+        left: usize,
+        binders: &Binders<'_>,
+        class: Class,
+        from: usize,
+    ) -> Result<(Part, usize), CoreTextFault>
+        requires utf8 { IsUtf8 self.now.bytes.now }
+        requires start { IsCharBoundary self.now.bytes.now from }
+        requires short { length self.now.bytes.now < 2 ^ 32 }
+        requires counted { length (known_names self.now.own.now) + length (known_names self.now.known.now) < 2 ^ 32 }
+        requires nested { length (names binders.now) + left < 1024 }
+        ensures gives { Gives (λ x. (part_tree x.0, rest self.now.bytes.now x.1)) result
+            (form_with (part_at (length self.now.bytes.now) left) (length self.now.bytes.now) left (scope_of binders.now self.now.own.now self.now.known.now) class (rest self.now.bytes.now from)) }
+        ensures advances { IfOk result (λ x. Advances self.now.bytes.now from x.1) }
+        ensures class { IfOk result (λ x. class_of x.0 ≡ class) }
+        ensures shallow { IfOk result (λ x. depth (part_tree x.0) ≤ left + 1) }
+    {
+        let (form, inside) = form_word(self.bytes, left, class, from)?;
+        let mut at = inside;
+        let mut parts = Vec::new(self.alloc);
+        let mut binder = None;
+        let mut pieces = pieces_of(form);
+        'pieces: while let Some((first, others)) = pieces.split_first() {
+            match *first {
+                Piece::Binder(sort) => {
+                    let (name, after) = name_of(self.bytes, left, at)?;
+                    binder = Some((name, sort));
+                    at = after;
+                }
+                Piece::Part(class) => {
+                    let (part, after) = self.part(left, binders, class, at)?;
+                    parts.push(part)?;
+                    at = after;
+                }
+                Piece::Under(class) => {
+                    let (part, after) = match binder {
+                        None => self.part(left, binders, class, at)?,
+                        Some((name, sort)) => {
+                            let inner = Binders::Inside(name, sort, &*binders);
+                            self.part(left, &inner, class, at)?
+                        }
+                    };
+                    parts.push(part)?;
+                    at = after;
+                }
+            }
+            pieces = others;
+        }
+        let at = close_of(self.bytes, left, at)?;
+        Ok((build(self.alloc, form, &parts)?, at))
+    }
+
+    /// The text of a name.
+    fn text_of(&self, name: &[u8]) -> Result<Text, CoreTextFault>
+        requires { IsUtf8 name.now }
+        ensures gives { Gives (λ text. text) result (Rattle.std.specs.Prelude.Ok name.now) }
+    {
+        match std::str::from_utf8(name) {
+            Ok(name) => Ok(Text::new(self.alloc, name)?),
+            Err(_) => unreachable!(),
+        }
+    }
+
+    /// An item.
+    #[tactic(auto, unfolding(cdle_model::specs::CoreReading::item_at))]
+    pub(crate) fn item(&self, from: usize) -> Result<(CoreItem, usize), CoreTextFault>
+        requires utf8 { IsUtf8 self.now.bytes.now }
+        requires start { IsCharBoundary self.now.bytes.now from }
+        requires short { length self.now.bytes.now < 2 ^ 32 }
+        requires counted { length (known_names self.now.own.now) + length (known_names self.now.known.now) < 2 ^ 32 }
+        ensures gives { Gives (λ x. (written x.0, rest self.now.bytes.now x.1)) result
+            (item_at (length self.now.bytes.now) (known_names self.now.own.now ++ known_names self.now.known.now) (rest self.now.bytes.now from)) }
+        ensures advances { IfOk result (λ x. Advances self.now.bytes.now from x.1) }
+    {
+        let at = open_of(self.bytes, from)?;
+        let (sort, at) = sort_of(self.bytes, at)?;
+        let (name, at) = name_of(self.bytes, INSIDE_ITEM, at)?;
+        match sort {
+            Sort::OfTerm => {
+                let (ty, at) = self.part(INSIDE_ITEM, &Binders::Outermost, Class::Ty, at)?;
+                let (body, at) = self.part(INSIDE_ITEM, &Binders::Outermost, Class::Term, at)?;
+                let at = close_of(self.bytes, INSIDE_ITEM, at)?;
+                let name = self.text_of(name)?;
+                let ty = ty.as_ty().clone()?;
+                let body = body.as_term().clone()?;
+                Ok((CoreItem::Def { name, ty, body }, at))
+            }
+            Sort::OfType => {
+                let (kind, at) = self.part(INSIDE_ITEM, &Binders::Outermost, Class::Kind, at)?;
+                let (body, at) = self.part(INSIDE_ITEM, &Binders::Outermost, Class::Ty, at)?;
+                let at = close_of(self.bytes, INSIDE_ITEM, at)?;
+                let name = self.text_of(name)?;
+                let kind = kind.as_kind().clone()?;
+                let body = body.as_ty().clone()?;
+                Ok((CoreItem::TypeDef { name, kind, body }, at))
+            }
+        }
+    }
+}

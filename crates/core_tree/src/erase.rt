@@ -1,0 +1,133 @@
+ghost use Rattle.std.specs.Prelude.{◌≡◌, ◌≤◌, IfOk};
+ghost use Rattle.cdle_model.specs.Depth.{depth};
+ghost use Rattle.cdle_model.specs.Erasure.{HasErasure, erased};
+
+use crate::guide::{Guide, GuideKind};
+use crate::pure::Pure;
+use crate::term::{Kind, KindForm, Term, TermForm, Ty, TyForm};
+use cdle_model::NoMemory;
+use std::alloc::Global;
+
+impl Term {
+    /// What is left without annotations and erased parts. It is never deeper.
+    #[tactic(auto, using(cdle_model::proofs::Trees::depth_lowered))]
+    pub fn erase(&self, alloc: Global) -> Result<Pure, NoMemory>
+        requires { HasErasure self.now }
+        ensures is { IfOk result (λ t. t ≡ erased self.now) }
+        ensures no_deeper { IfOk result (λ t. depth t ≤ depth self.now) }
+    {
+        match self.form() {
+            TermForm::Var(index) => Pure::var(alloc, *index),
+            TermForm::Name(item) => Pure::name(alloc, *item),
+            TermForm::Lam(_, part) => {
+                let part = part.erase(alloc)?;
+                Pure::function(alloc, &part)
+            }
+            TermForm::Elam(_, part) => {
+                let part = part.erase(alloc)?;
+                part.lower(alloc)
+            }
+            TermForm::Xlam(_, part) => {
+                let part = part.erase(alloc)?;
+                part.lower(alloc)
+            }
+            TermForm::App(head, arg) => {
+                let head = head.erase(alloc)?;
+                let arg = arg.erase(alloc)?;
+                Pure::ap(alloc, &head, &arg)
+            }
+            TermForm::Eapp(head, _) => head.erase(alloc),
+            TermForm::Tapp(head, _) => head.erase(alloc),
+            TermForm::Pair(left, _, _) => left.erase(alloc),
+            TermForm::Fst(part) => part.erase(alloc),
+            TermForm::Snd(part) => part.erase(alloc),
+            TermForm::Beta(_, kept) => kept.share(),
+            TermForm::Rho(_, _, _, part) => part.erase(alloc),
+            TermForm::Phi(_, _, kept) => kept.share(),
+            TermForm::Delta(_, _) => {
+                let zero = Pure::var(alloc, 0)?;
+                Pure::function(alloc, &zero)
+            }
+        }
+    }
+}
+
+impl Ty {
+    /// What is left without annotations and erased parts. It is never deeper.
+    #[cycle(erase)]
+    #[tactic(auto, using(cdle_model::proofs::Trees::depth_lowered))]
+    pub fn erase(&self, alloc: Global) -> Result<Guide, NoMemory>
+        requires { HasErasure self.now }
+        ensures is { IfOk result (λ t. t ≡ erased self.now) }
+        ensures no_deeper { IfOk result (λ t. depth t ≤ depth self.now) }
+    {
+        match self.form() {
+            TyForm::Var(index) => Guide::var(alloc, *index),
+            TyForm::Name(item) => Guide::name(alloc, *item),
+            TyForm::Pi(domain, part) => {
+                let domain = domain.erase(alloc)?;
+                let part = part.erase(alloc)?;
+                Guide::pi(alloc, &domain, &part)
+            }
+            TyForm::All(domain, part) => {
+                let domain = domain.erase(alloc)?;
+                let part = part.erase(alloc)?;
+                Guide::all(alloc, &domain, &part)
+            }
+            TyForm::Allt(domain, part) => {
+                let domain = domain.erase(alloc)?;
+                let part = part.erase(alloc)?;
+                Guide::allt(alloc, &domain, &part)
+            }
+            TyForm::Tlam(_, part) => {
+                let part = part.erase(alloc)?;
+                Guide::tlam(alloc, &part)
+            }
+            TyForm::Xtlam(_, part) => {
+                let part = part.erase(alloc)?;
+                Guide::xtlam(alloc, &part)
+            }
+            TyForm::At(head, arg) => {
+                let head = head.erase(alloc)?;
+                let arg = arg.erase(alloc)?;
+                Guide::at(alloc, &head, &arg)
+            }
+            TyForm::On(head, arg) => {
+                let head = head.erase(alloc)?;
+                let arg = arg.erase(alloc)?;
+                Guide::on(alloc, &head, &arg)
+            }
+            TyForm::Iota(left, right) => {
+                let left = left.erase(alloc)?;
+                let right = right.erase(alloc)?;
+                Guide::iota(alloc, &left, &right)
+            }
+            TyForm::Eq(left, right) => Guide::eq(alloc, left, right),
+        }
+    }
+}
+
+impl Kind {
+    /// What is left without annotations and erased parts. It is never deeper.
+    #[cycle(erase)]
+    #[tactic(auto, using(cdle_model::proofs::Trees::depth_lowered))]
+    pub fn erase(&self, alloc: Global) -> Result<GuideKind, NoMemory>
+        requires { HasErasure self.now }
+        ensures is { IfOk result (λ t. t ≡ erased self.now) }
+        ensures no_deeper { IfOk result (λ t. depth t ≤ depth self.now) }
+    {
+        match self.form() {
+            KindForm::Star => GuideKind::star(alloc),
+            KindForm::Kpi(domain, part) => {
+                let domain = domain.erase(alloc)?;
+                let part = part.erase(alloc)?;
+                GuideKind::kpi(alloc, &domain, &part)
+            }
+            KindForm::Kpit(domain, part) => {
+                let domain = domain.erase(alloc)?;
+                let part = part.erase(alloc)?;
+                GuideKind::kpit(alloc, &domain, &part)
+            }
+        }
+    }
+}

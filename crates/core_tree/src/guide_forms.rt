@@ -1,0 +1,218 @@
+ghost use Rattle.std.specs.Prelude.{◌≡◌, ◌<◌, IfOk};
+ghost use Rattle.cdle_model.specs.Trees.{var, name};
+ghost use Rattle.cdle_model.specs.Forms.{all, allt, at_, eq, guide_tlam, guide_xtlam, iota, kpi, kpit, on, pi, star};
+ghost use Rattle.cdle_model.specs.Depth.{depth};
+
+use crate::guide::{Guide, GuideForm, GuideKind, GuideKindForm};
+use crate::pure::Pure;
+use cdle_model::NoMemory;
+use std::alloc::Global;
+
+impl Guide {
+    /// The variable with `index` binders between it and its own.
+    pub fn var(alloc: Global, index: u32) -> Result<Guide, NoMemory>
+        ensures { IfOk result (λ t. t ≡ var index) }
+    {
+        Guide::leaf(alloc, index as u64 + 1, GuideForm::Var(index))
+    }
+
+    /// The item of that number.
+    pub fn name(alloc: Global, item: u32) -> Result<Guide, NoMemory>
+        ensures { IfOk result (λ t. t ≡ name item) }
+    {
+        Guide::leaf(alloc, 0, GuideForm::Name(item))
+    }
+
+    /// `(pi x domain part)`.
+    pub fn pi(alloc: Global, domain: &Guide, part: &Guide) -> Result<Guide, NoMemory>
+        requires domain_depth { depth domain.now < 65535 }
+        requires part_depth { depth part.now < 65535 }
+        ensures { IfOk result (λ t. t ≡ pi domain.now part.now) }
+    {
+        let depth = domain.depth().max(part.depth()) + 1;
+        let free = domain.free().max(part.free().saturating_sub(1));
+        let nodes = domain.nodes().saturating_add(part.nodes());
+        Guide::make(
+            alloc,
+            depth,
+            free,
+            nodes,
+            GuideForm::Pi(domain.share()?, part.share()?),
+        )
+    }
+
+    /// `(all x domain part)`.
+    pub fn all(alloc: Global, domain: &Guide, part: &Guide) -> Result<Guide, NoMemory>
+        requires domain_depth { depth domain.now < 65535 }
+        requires part_depth { depth part.now < 65535 }
+        ensures { IfOk result (λ t. t ≡ all domain.now part.now) }
+    {
+        let depth = domain.depth().max(part.depth()) + 1;
+        let free = domain.free().max(part.free().saturating_sub(1));
+        let nodes = domain.nodes().saturating_add(part.nodes());
+        Guide::make(
+            alloc,
+            depth,
+            free,
+            nodes,
+            GuideForm::All(domain.share()?, part.share()?),
+        )
+    }
+
+    /// `(allt X domain part)`.
+    pub fn allt(alloc: Global, domain: &GuideKind, part: &Guide) -> Result<Guide, NoMemory>
+        requires domain_depth { depth domain.now < 65535 }
+        requires part_depth { depth part.now < 65535 }
+        ensures { IfOk result (λ t. t ≡ allt domain.now part.now) }
+    {
+        let depth = domain.depth().max(part.depth()) + 1;
+        let free = domain.free().max(part.free().saturating_sub(1));
+        let nodes = domain.nodes().saturating_add(part.nodes());
+        Guide::make(
+            alloc,
+            depth,
+            free,
+            nodes,
+            GuideForm::Allt(domain.share()?, part.share()?),
+        )
+    }
+
+    /// `(tlam x part)`.
+    pub fn tlam(alloc: Global, part: &Guide) -> Result<Guide, NoMemory>
+        requires { depth part.now < 65535 }
+        ensures { IfOk result (λ t. t ≡ guide_tlam part.now) }
+    {
+        let depth = part.depth() + 1;
+        let free = part.free().saturating_sub(1);
+        let nodes = part.nodes();
+        Guide::make(alloc, depth, free, nodes, GuideForm::Tlam(part.share()?))
+    }
+
+    /// `(xtlam X part)`.
+    pub fn xtlam(alloc: Global, part: &Guide) -> Result<Guide, NoMemory>
+        requires { depth part.now < 65535 }
+        ensures { IfOk result (λ t. t ≡ guide_xtlam part.now) }
+    {
+        let depth = part.depth() + 1;
+        let free = part.free().saturating_sub(1);
+        let nodes = part.nodes();
+        Guide::make(alloc, depth, free, nodes, GuideForm::Xtlam(part.share()?))
+    }
+
+    /// `(at head arg)`.
+    pub fn at(alloc: Global, head: &Guide, arg: &Pure) -> Result<Guide, NoMemory>
+        requires head_depth { depth head.now < 65535 }
+        requires arg_depth { depth arg.now < 65535 }
+        ensures { IfOk result (λ t. t ≡ at_ head.now arg.now) }
+    {
+        let depth = head.depth().max(arg.depth()) + 1;
+        let free = head.free().max(arg.free());
+        let nodes = head.nodes().saturating_add(arg.nodes());
+        Guide::make(
+            alloc,
+            depth,
+            free,
+            nodes,
+            GuideForm::At(head.share()?, arg.share()?),
+        )
+    }
+
+    /// `(on head arg)`.
+    pub fn on(alloc: Global, head: &Guide, arg: &Guide) -> Result<Guide, NoMemory>
+        requires head_depth { depth head.now < 65535 }
+        requires arg_depth { depth arg.now < 65535 }
+        ensures { IfOk result (λ t. t ≡ on head.now arg.now) }
+    {
+        let depth = head.depth().max(arg.depth()) + 1;
+        let free = head.free().max(arg.free());
+        let nodes = head.nodes().saturating_add(arg.nodes());
+        Guide::make(
+            alloc,
+            depth,
+            free,
+            nodes,
+            GuideForm::On(head.share()?, arg.share()?),
+        )
+    }
+
+    /// `(iota x left right)`.
+    pub fn iota(alloc: Global, left: &Guide, right: &Guide) -> Result<Guide, NoMemory>
+        requires left_depth { depth left.now < 65535 }
+        requires right_depth { depth right.now < 65535 }
+        ensures { IfOk result (λ t. t ≡ iota left.now right.now) }
+    {
+        let depth = left.depth().max(right.depth()) + 1;
+        let free = left.free().max(right.free().saturating_sub(1));
+        let nodes = left.nodes().saturating_add(right.nodes());
+        Guide::make(
+            alloc,
+            depth,
+            free,
+            nodes,
+            GuideForm::Iota(left.share()?, right.share()?),
+        )
+    }
+
+    /// `(eq left right)`.
+    pub fn eq(alloc: Global, left: &Pure, right: &Pure) -> Result<Guide, NoMemory>
+        requires left_depth { depth left.now < 65535 }
+        requires right_depth { depth right.now < 65535 }
+        ensures { IfOk result (λ t. t ≡ eq left.now right.now) }
+    {
+        let depth = left.depth().max(right.depth()) + 1;
+        let free = left.free().max(right.free());
+        let nodes = left.nodes().saturating_add(right.nodes());
+        Guide::make(
+            alloc,
+            depth,
+            free,
+            nodes,
+            GuideForm::Eq(left.share()?, right.share()?),
+        )
+    }
+}
+
+impl GuideKind {
+    /// `*`.
+    pub fn star(alloc: Global) -> Result<GuideKind, NoMemory>
+        ensures { IfOk result (λ t. t ≡ star) }
+    {
+        GuideKind::leaf(alloc, 0, GuideKindForm::Star)
+    }
+
+    /// `(kpi x domain part)`.
+    pub fn kpi(alloc: Global, domain: &Guide, part: &GuideKind) -> Result<GuideKind, NoMemory>
+        requires domain_depth { depth domain.now < 65535 }
+        requires part_depth { depth part.now < 65535 }
+        ensures { IfOk result (λ t. t ≡ kpi domain.now part.now) }
+    {
+        let depth = domain.depth().max(part.depth()) + 1;
+        let free = domain.free().max(part.free().saturating_sub(1));
+        let nodes = domain.nodes().saturating_add(part.nodes());
+        GuideKind::make(
+            alloc,
+            depth,
+            free,
+            nodes,
+            GuideKindForm::Kpi(domain.share()?, part.share()?),
+        )
+    }
+
+    /// `(kpit X domain part)`.
+    pub fn kpit(alloc: Global, domain: &GuideKind, part: &GuideKind) -> Result<GuideKind, NoMemory>
+        requires domain_depth { depth domain.now < 65535 }
+        requires part_depth { depth part.now < 65535 }
+        ensures { IfOk result (λ t. t ≡ kpit domain.now part.now) }
+    {
+        let depth = domain.depth().max(part.depth()) + 1;
+        let free = domain.free().max(part.free().saturating_sub(1));
+        let nodes = domain.nodes().saturating_add(part.nodes());
+        GuideKind::make(
+            alloc,
+            depth,
+            free,
+            nodes,
+            GuideKindForm::Kpit(domain.share()?, part.share()?),
+        )
+    }
+}

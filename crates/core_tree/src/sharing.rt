@@ -1,0 +1,24 @@
+//! How much a change of a tree would build.
+use cdle_model::NoMemory;
+
+/// The most nodes that one shift or one put builds. More would not fit in memory, and to try would take minutes.
+const MOST_NODES: u64 = 4_294_967_296;
+
+/// The number of nodes of a tree that have a free variable, or the counter's last value, where `parts` is the sum over its parts.
+/// The other nodes are never built anew.
+pub(crate) fn count_open(free: u64, parts: u64) -> u64 {
+    if free == 0 {
+        0
+    } else {
+        parts.saturating_add(1)
+    }
+}
+
+/// Refuses a change at and above the variable `from` that would build too many nodes.
+pub(crate) fn refuse_large(nodes: u64, free: u64, from: u64) -> Result<(), NoMemory> {
+    if free > from && nodes > MOST_NODES {
+        Err(NoMemory)
+    } else {
+        Ok(())
+    }
+}

@@ -1,0 +1,181 @@
+ghost use Rattle.std.specs.Prelude.{◌≡◌, ◌<◌, IfOk};
+ghost use Rattle.cdle_model.specs.Trees.{var, name};
+ghost use Rattle.cdle_model.specs.Forms.{app, beta, delta, eapp, elam, fst, lam, pair, phi, rho, snd, tapp, xlam};
+ghost use Rattle.cdle_model.specs.Depth.{depth};
+
+use crate::guide::Guide;
+use crate::pure::Pure;
+use crate::term::{Kind, Term, TermForm, Ty};
+use cdle_model::NoMemory;
+use std::alloc::Global;
+
+impl Term {
+    /// The variable with `index` binders between it and its own.
+    pub fn var(alloc: Global, index: u32) -> Result<Term, NoMemory>
+        ensures { IfOk result (λ t. t ≡ var index) }
+    {
+        Term::leaf(alloc, TermForm::Var(index))
+    }
+
+    /// The item of that number.
+    pub fn name(alloc: Global, item: u32) -> Result<Term, NoMemory>
+        ensures { IfOk result (λ t. t ≡ name item) }
+    {
+        Term::leaf(alloc, TermForm::Name(item))
+    }
+
+    /// `(lam x ty part)`.
+    pub fn lam(alloc: Global, ty: &Ty, part: &Term) -> Result<Term, NoMemory>
+        requires ty_depth { depth ty.now < 4096 }
+        requires part_depth { depth part.now < 4096 }
+        ensures { IfOk result (λ t. t ≡ lam ty.now part.now) }
+    {
+        let depth = ty.depth().max(part.depth()) + 1;
+        Term::make(alloc, depth, TermForm::Lam(ty.share()?, part.share()?))
+    }
+
+    /// `(elam x ty part)`.
+    pub fn elam(alloc: Global, ty: &Ty, part: &Term) -> Result<Term, NoMemory>
+        requires ty_depth { depth ty.now < 4096 }
+        requires part_depth { depth part.now < 4096 }
+        ensures { IfOk result (λ t. t ≡ elam ty.now part.now) }
+    {
+        let depth = ty.depth().max(part.depth()) + 1;
+        Term::make(alloc, depth, TermForm::Elam(ty.share()?, part.share()?))
+    }
+
+    /// `(xlam X kind part)`.
+    pub fn xlam(alloc: Global, kind: &Kind, part: &Term) -> Result<Term, NoMemory>
+        requires kind_depth { depth kind.now < 4096 }
+        requires part_depth { depth part.now < 4096 }
+        ensures { IfOk result (λ t. t ≡ xlam kind.now part.now) }
+    {
+        let depth = kind.depth().max(part.depth()) + 1;
+        Term::make(alloc, depth, TermForm::Xlam(kind.share()?, part.share()?))
+    }
+
+    /// `(app head arg)`.
+    pub fn app(alloc: Global, head: &Term, arg: &Term) -> Result<Term, NoMemory>
+        requires head_depth { depth head.now < 4096 }
+        requires arg_depth { depth arg.now < 4096 }
+        ensures { IfOk result (λ t. t ≡ app head.now arg.now) }
+    {
+        let depth = head.depth().max(arg.depth()) + 1;
+        Term::make(alloc, depth, TermForm::App(head.share()?, arg.share()?))
+    }
+
+    /// `(eapp head arg)`.
+    pub fn eapp(alloc: Global, head: &Term, arg: &Term) -> Result<Term, NoMemory>
+        requires head_depth { depth head.now < 4096 }
+        requires arg_depth { depth arg.now < 4096 }
+        ensures { IfOk result (λ t. t ≡ eapp head.now arg.now) }
+    {
+        let depth = head.depth().max(arg.depth()) + 1;
+        Term::make(alloc, depth, TermForm::Eapp(head.share()?, arg.share()?))
+    }
+
+    /// `(tapp head arg)`.
+    pub fn tapp(alloc: Global, head: &Term, arg: &Ty) -> Result<Term, NoMemory>
+        requires head_depth { depth head.now < 4096 }
+        requires arg_depth { depth arg.now < 4096 }
+        ensures { IfOk result (λ t. t ≡ tapp head.now arg.now) }
+    {
+        let depth = head.depth().max(arg.depth()) + 1;
+        Term::make(alloc, depth, TermForm::Tapp(head.share()?, arg.share()?))
+    }
+
+    /// `(pair left right x ty)`.
+    pub fn pair(alloc: Global, left: &Term, right: &Term, ty: &Ty) -> Result<Term, NoMemory>
+        requires left_depth { depth left.now < 4096 }
+        requires right_depth { depth right.now < 4096 }
+        requires ty_depth { depth ty.now < 4096 }
+        ensures { IfOk result (λ t. t ≡ pair left.now right.now ty.now) }
+    {
+        let depth = left.depth().max(right.depth()).max(ty.depth()) + 1;
+        Term::make(
+            alloc,
+            depth,
+            TermForm::Pair(left.share()?, right.share()?, ty.share()?),
+        )
+    }
+
+    /// `(fst part)`.
+    pub fn fst(alloc: Global, part: &Term) -> Result<Term, NoMemory>
+        requires { depth part.now < 4096 }
+        ensures { IfOk result (λ t. t ≡ fst part.now) }
+    {
+        let depth = part.depth() + 1;
+        Term::make(alloc, depth, TermForm::Fst(part.share()?))
+    }
+
+    /// `(snd part)`.
+    pub fn snd(alloc: Global, part: &Term) -> Result<Term, NoMemory>
+        requires { depth part.now < 4096 }
+        ensures { IfOk result (λ t. t ≡ snd part.now) }
+    {
+        let depth = part.depth() + 1;
+        Term::make(alloc, depth, TermForm::Snd(part.share()?))
+    }
+
+    /// `(beta side kept)`.
+    pub fn beta(alloc: Global, side: &Pure, kept: &Pure) -> Result<Term, NoMemory>
+        requires side_depth { depth side.now < 4096 }
+        requires kept_depth { depth kept.now < 4096 }
+        ensures { IfOk result (λ t. t ≡ beta side.now kept.now) }
+    {
+        let depth = side.depth().max(kept.depth()) + 1;
+        Term::make(alloc, depth, TermForm::Beta(side.share()?, kept.share()?))
+    }
+
+    /// `(rho proof x guide ty part)`.
+    pub fn rho(
+        alloc: Global,
+        proof: &Term,
+        guide: &Guide,
+        ty: &Ty,
+        part: &Term,
+    ) -> Result<Term, NoMemory>
+        requires proof_depth { depth proof.now < 4096 }
+        requires guide_depth { depth guide.now < 4096 }
+        requires ty_depth { depth ty.now < 4096 }
+        requires part_depth { depth part.now < 4096 }
+        ensures { IfOk result (λ t. t ≡ rho proof.now guide.now ty.now part.now) }
+    {
+        let depth = proof
+            .depth()
+            .max(guide.depth())
+            .max(ty.depth())
+            .max(part.depth())
+            + 1;
+        Term::make(
+            alloc,
+            depth,
+            TermForm::Rho(proof.share()?, guide.share()?, ty.share()?, part.share()?),
+        )
+    }
+
+    /// `(phi proof part kept)`.
+    pub fn phi(alloc: Global, proof: &Term, part: &Term, kept: &Pure) -> Result<Term, NoMemory>
+        requires proof_depth { depth proof.now < 4096 }
+        requires part_depth { depth part.now < 4096 }
+        requires kept_depth { depth kept.now < 4096 }
+        ensures { IfOk result (λ t. t ≡ phi proof.now part.now kept.now) }
+    {
+        let depth = proof.depth().max(part.depth()).max(kept.depth()) + 1;
+        Term::make(
+            alloc,
+            depth,
+            TermForm::Phi(proof.share()?, part.share()?, kept.share()?),
+        )
+    }
+
+    /// `(delta ty proof)`.
+    pub fn delta(alloc: Global, ty: &Ty, proof: &Term) -> Result<Term, NoMemory>
+        requires ty_depth { depth ty.now < 4096 }
+        requires proof_depth { depth proof.now < 4096 }
+        ensures { IfOk result (λ t. t ≡ delta ty.now proof.now) }
+    {
+        let depth = ty.depth().max(proof.depth()) + 1;
+        Term::make(alloc, depth, TermForm::Delta(ty.share()?, proof.share()?))
+    }
+}
