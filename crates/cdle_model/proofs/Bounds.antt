@@ -1,16 +1,10 @@
 -- Bounds on the numbers of variables.
-use Rattle.std.proofs.Common.{◌≡◌, ℕ, suc, ◌+◌, ◌<◌, ◌≤◌, arith}
-use Rattle.cdle_model.specs.Trees.{Tree, var, name, leaf, unary, fun, apply, binary, bind, IsBelow}
+use Rattle.std.proofs.Common.{ℕ, suc, ◌+◌, ◌≤◌, arith}
+use Rattle.cdle_model.specs.Trees.{Tree, var, name, IsBelow}
 use Rattle.cdle_model.specs.Forms.{star, kpi, kpit, pi, all, allt, at_, on, iota, eq, guide_tlam, guide_xtlam, fn, ap}
 use Rattle.cdle_model.specs.Depth.{depth, ShiftFits}
 use Rattle.cdle_model.specs.Classes.{TreeClass, terms, types, kinds, pure_terms, guides, guide_kinds, term_pairs, guided_proofs, typed_terms, IsOf}
-
--- the classes of what is left by erasure
-abbrev pub IsErased : TreeClass → Type 0
-IsErased pure_terms = Unit {0}
-IsErased guides = Unit {0}
-IsErased guide_kinds = Unit {0}
-IsErased c = ⊥
+use Rattle.cdle_model.specs.Fitting.{IsErased}
 
 -- an erased tree whose free variables leave room may be shifted
 pub fits_below : (c : TreeClass) (n from by : ℕ) (t : Tree) → IsErased c → IsOf c t → IsBelow n t → n + by + depth t ≤ 4294967296 → ShiftFits from by t

@@ -1,5 +1,5 @@
 -- What a text says is read from the left, so it says one thing.
-use Rattle.std.proofs.Common.{◌≡◌, ℕ, zero, suc, Bool, true, false, cond, List, [], ◌∷◌, Option, Some, None, Result, Ok, Err, refl, sym, ap, subst, ◌∙◌}
+use Rattle.std.proofs.Common.{◌≡◌, ℕ, suc, true, false, List, [], ◌∷◌, Option, Some, None, Ok, refl, sym, ap, ◌∙◌}
 use Rattle.std.specs.Prelude.{codes}
 use Rattle.std.specs.Str.{bytes_eq}
 use Rattle.cdle_model.specs.declared.grammar.Sort.{Sort}
@@ -8,19 +8,17 @@ use Rattle.cdle_model.specs.declared.grammar.Class.{Class}
 use Rattle.cdle_model.specs.declared.grammar.Class.TheVariants.{Kind, Ty, Term}
 use Rattle.cdle_model.specs.declared.grammar.Form.{Form}
 use Rattle.cdle_model.specs.declared.grammar.Piece.{Piece}
-use Rattle.cdle_model.specs.declared.grammar.Piece.TheVariants.{Binder, Part, Under}
 use Rattle.cdle_model.specs.declared.grammar.CoreWanted.{CoreWanted}
 use Rattle.cdle_model.specs.declared.grammar.CoreWanted.TheVariants as wanted
 use Rattle.cdle_model.specs.Trees.{Tree}
 use Rattle.cdle_model.specs.Forms as forms
 use Rattle.cdle_model.specs.Forms.{Written, def_item, type_item, name_of}
-use Rattle.cdle_model.specs.CoreTokens.{Lexeme, Opens, Closes, Word, Token}
-use Rattle.cdle_model.specs.CoreFaults.{Fault, BadText, Unbound, WrongClass, TooDeep, wanted_part, passes_nesting, unexpected}
+use Rattle.cdle_model.specs.CoreTokens.{Opens, Closes, Word, Token}
 use Rattle.cdle_model.specs.CoreGrammar.{form_of, has_forms, names_of, pieces, made, look_up, item_words, item_pieces, item_parts, made_item}
 use Rattle.cdle_model.specs.Classes.{item_sort}
-use Rattle.cdle_model.specs.CoreNames.{Name, Names, under, behind, stands, same_sort, is_star, with_item, with_items}
+use Rattle.cdle_model.specs.CoreNames.{Name, Names, behind, stands, same_sort, is_star, with_item, with_items}
 use Rattle.cdle_model.specs.CoreText.{Reads, star, name, form, ReadsPieces, end, bind, part, inner, Stands, ReadsItem, ReadsItems, ReadsFile}
-use Rattle.cdle_model.specs.CoreReading.{◌>>=◌, Read, Reader, name_at, close_at, found_form, form_at, known, word_with, leaf, pieces_with, part_with, form_with, inside, part_at, open_at, found_sort, sort_at, item_at, word_at, head_at, Items}
+use Rattle.cdle_model.specs.CoreReading.{Read, Reader, name_at, close_at, found_form, form_at, word_with, leaf, pieces_with, part_with, form_with, inside, part_at, open_at, found_sort, sort_at, item_at, word_at, head_at, Items}
 
 -- ---- parts
 

@@ -1,9 +1,8 @@
 -- What is taken token by token is what the relation says where any name stands for anything.
-use Rattle.std.proofs.Common.{◌≡◌, ℕ, zero, suc, Bool, true, false, cond, List, [], ◌∷◌, ◌++◌, Option, Some, None, Result, Ok, Err, refl, sym, ap, subst, ◌∙◌, eq-eqb, eqb, append_assoc}
+use Rattle.std.proofs.Common.{◌≡◌, ℕ, zero, suc, Bool, true, false, cond, List, [], ◌∷◌, ◌++◌, Option, Some, None, refl, sym, ap, subst, ◌∙◌, append_assoc}
 use Rattle.std.specs.Prelude.{codes}
 use Rattle.std.specs.Str.{bytes_eq}
 use Rattle.cdle_model.specs.declared.grammar.Sort.{Sort}
-use Rattle.cdle_model.specs.declared.grammar.Sort.TheVariants.{OfTerm, OfType}
 use Rattle.cdle_model.specs.declared.grammar.Class.{Class}
 use Rattle.cdle_model.specs.declared.grammar.Form.{Form}
 use Rattle.cdle_model.specs.declared.grammar.Piece.{Piece}
@@ -14,14 +13,13 @@ use Rattle.cdle_model.specs.Trees.{Tree}
 use Rattle.cdle_model.specs.Forms as forms
 use Rattle.cdle_model.specs.Forms.{Written, def_item, type_item, name_of}
 use Rattle.cdle_model.specs.CoreTokens.{Lexeme, Opens, Closes, Word, Token}
-use Rattle.cdle_model.specs.CoreFaults.{Fault, BadText, Unbound, WrongClass, TooDeep, wanted_part, passes_nesting, unexpected}
-use Rattle.cdle_model.specs.CoreGrammar.{form_of, has_forms, names_of, pieces, made, look_up, item_words, item_pieces, item_parts, made_item}
+use Rattle.cdle_model.specs.CoreGrammar.{form_of, has_forms, names_of, pieces, look_up, item_words, item_pieces, made_item}
 use Rattle.cdle_model.specs.Classes.{item_sort}
-use Rattle.cdle_model.specs.CoreNames.{Name, Names, under, behind, stands, same_sort, is_star, with_item, with_items}
+use Rattle.cdle_model.specs.CoreNames.{Name, Names, under, behind, stands, is_star, with_item, with_items}
 use Rattle.std.proofs.Common.{◌≤◌, ◌+◌, arith}
 use Rattle.std.proofs.lemmas.List.{append-nil}
-use Rattle.cdle_model.specs.CoreWants.{Want, TheWord, MoreItems, ItemWord, ItemName, PartOf, FormOf, Binding, Closing, word_of, left_of, Wrong, NotBound, OtherClass, fault_at, Step, complaint, a_word, a_form, opening, an_item, for_pieces, goes_on, step, taken, act, ended, run, after, start, place, CanGoOn, NoneGoesOn, IsFirstBadPlace}
-use Rattle.cdle_model.specs.CoreText.{Meaning, Reads, star, name, form, ReadsPieces, end, bind, part, inner, Free, ReadsItem, ReadsItems, ReadsFile, IsText}
+use Rattle.cdle_model.specs.CoreWants.{Want, TheWord, MoreItems, ItemWord, ItemName, PartOf, FormOf, Binding, Closing, Wrong, Step, complaint, a_word, a_form, opening, an_item, for_pieces, taken, act, after, start}
+use Rattle.cdle_model.specs.CoreText.{Reads, star, name, form, ReadsPieces, end, bind, part, inner, Free, ReadsItem, ReadsItems, IsText}
 use Rattle.cdle_model.proofs.CoreReads.{item_made}
 use Rattle.cdle_model.proofs.CoreAgain.{form_known}
 

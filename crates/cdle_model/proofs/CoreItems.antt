@@ -1,7 +1,6 @@
 -- What a Core text says fits its classes and its scope, and has the forms of the grammar alone.
-use Rattle.std.proofs.Common.{◌≡◌, ℕ, zero, suc, ◌+◌, ◌<◌, Bool, true, false, cond, List, [], ◌∷◌, ◌++◌, length, Option, Some, None, refl, sym, ap, subst, ◌∙◌, arith, slice_get, length-append, append_assoc}
+use Rattle.std.proofs.Common.{◌≡◌, ℕ, suc, ◌+◌, Bool, true, false, cond, List, [], ◌∷◌, ◌++◌, length, Option, Some, None, refl, sym, ap, subst, ◌∙◌, arith, slice_get, length-append, append_assoc}
 use Rattle.std.proofs.lemmas.List.{append-nil}
-use Rattle.std.specs.Prelude.{codes}
 use Rattle.std.specs.Str.{bytes_eq}
 use Rattle.cdle_model.specs.declared.grammar.Sort.{Sort}
 use Rattle.cdle_model.specs.declared.grammar.Sort.TheVariants.{OfTerm, OfType}
@@ -17,9 +16,10 @@ use Rattle.cdle_model.specs.Forms.{Written, def_item, type_item}
 use Rattle.cdle_model.specs.Classes.{TreeClass, kinds, types, terms, Scope, within, Fits, item_sort, item_sorts, IsOver, AreOver}
 use Rattle.cdle_model.specs.FirstCheck.{IsFirstType, IsFirstTerm, IsFirstItem, AreFirstItems}
 use Rattle.cdle_model.specs.CoreTokens.{Token}
-use Rattle.cdle_model.specs.CoreGrammar.{names_of, form_words, pieces, class_of_form, made, look_up, item_words, item_pieces, item_parts}
+use Rattle.cdle_model.specs.CoreGrammar.{names_of, form_words, pieces, class_of_form, made, look_up}
 use Rattle.cdle_model.specs.CoreNames.{Name, Names, under, behind, binder_of, item_of, or_else, stands, with_item, with_items}
 use Rattle.cdle_model.specs.CoreText.{Reads, star, name as by_name, form, ReadsPieces, end, bind, part, inner, Stands, ReadsItem, ReadsItems, ReadsFile}
+use Rattle.cdle_model.proofs.Lists.{get-left, get-last, sorts-snoc}
 
 -- ---- the scope that names stand for
 
@@ -39,17 +39,8 @@ length_sorts : (xs : List Name) → length (sorts_in xs) ≡ length xs
 length_sorts [] = refl
 length_sorts (x ∷ xs) = omega (arith, length-append (sorts_in xs) (x.sort ∷ []), length_sorts xs)
 
-last_sort : (ys : List Sort) (s : Sort) → slice_get (ys ++ (s ∷ [])) (length ys) ≡ Some s
-last_sort [] s = refl
-last_sort (y ∷ ys) s = last_sort ys s
-
 sort_at_end : (xs : List Name) (s : Sort) → slice_get (sorts_in xs ++ (s ∷ [])) (length xs) ≡ Some s
-sort_at_end xs s = ap (λ n. slice_get (sorts_in xs ++ (s ∷ [])) n) (sym (length_sorts xs)) ∙ last_sort (sorts_in xs) s
-
-earlier_sort : (ys zs : List Sort) (n : ℕ) (s : Sort) → slice_get ys n ≡ Some s → slice_get (ys ++ zs) n ≡ Some s
-earlier_sort [] zs n s h = absurd cc
-earlier_sort (y ∷ ys) zs zero s h = h
-earlier_sort (y ∷ ys) zs (suc n) s h = earlier_sort ys zs n s h
+sort_at_end xs s = ap (λ n. slice_get (sorts_in xs ++ (s ∷ [])) n) (sym (length_sorts xs)) ∙ get-last (sorts_in xs) s
 
 -- the class of a tree that stands for a name of a sort
 abbrev class_of : Sort → TreeClass
@@ -84,7 +75,7 @@ binder_stands w n (x ∷ xs) s t e = binder_at n x xs (binder_of w (n + 1) xs) s
 item_at : (x : Name) (xs : List Name) (o : Option (Sort × Tree)) (s : Sort) (t : Tree) → (o ≡ found s t → (n : ℕ) × (t ≡ name n) × (slice_get (sorts_in xs) n ≡ Some s))
     → (b : Bool) → cond b (found x.sort (name (length xs))) o ≡ found s t → (n : ℕ) × (t ≡ name n) × (slice_get (sorts_in xs ++ (x.sort ∷ [])) n ≡ Some s)
 item_at x xs o s t others true e = let p = same_found x.sort s (name (length xs)) t e in (length xs, sym p.1, sort_at_end xs x.sort ∙ ap Some p.0)
-item_at x xs o s t others false e = let h = others e in (h.0, h.1, earlier_sort (sorts_in xs) (x.sort ∷ []) h.0 s h.2)
+item_at x xs o s t others false e = let h = others e in (h.0, h.1, get-left (sorts_in xs) (x.sort ∷ []) h.0 s h.2)
 
 item_stands : (w : List ℕ) (xs : List Name) (s : Sort) (t : Tree) → item_of w xs ≡ found s t → (n : ℕ) × (t ≡ name n) × (slice_get (sorts_in xs) n ≡ Some s)
 item_stands w [] s t e = absurd cc
@@ -200,16 +191,12 @@ mutual
 
 -- ---- items
 
-sorts_more : (es : List Written) (w : Written) → item_sorts (es ++ (w ∷ [])) ≡ item_sorts es ++ (item_sort w ∷ [])
-sorts_more [] w = refl
-sorts_more (e ∷ es) w = ap (λ (xs : List Sort). item_sort e ∷ xs) (sorts_more es w)
-
 -- the sorts of names are those of these items
 abbrev AreOf : List Name → List Written → Type 0
 AreOf known es = sorts_in known ≡ item_sorts es
 
 with_item_of : (known : List Name) (es : List Written) (w : Written) → AreOf known es → AreOf (with_item w known) (es ++ (w ∷ []))
-with_item_of known es w e = ap (λ (xs : List Sort). xs ++ (item_sort w ∷ [])) e ∙ sym (sorts_more es w)
+with_item_of known es w e = ap (λ (xs : List Sort). xs ++ (item_sort w ∷ [])) e ∙ sym (sorts-snoc es w)
 
 with_items_of : (known : List Name) (es ws : List Written) → AreOf known es → AreOf (with_items ws known) (es ++ ws)
 with_items_of known es [] e = e ∙ ap item_sorts (sym (append-nil es))

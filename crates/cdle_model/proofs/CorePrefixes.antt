@@ -1,25 +1,10 @@
 -- The first fault of the grammar is where no text goes on.
-use Rattle.std.proofs.Common.{◌≡◌, ℕ, zero, suc, Bool, true, false, cond, List, [], ◌∷◌, ◌++◌, Option, Some, None, Result, Ok, Err, refl, sym, ap, subst, ◌∙◌, eq-eqb, eqb, append_assoc}
-use Rattle.std.specs.Prelude.{codes}
-use Rattle.std.specs.Str.{bytes_eq}
-use Rattle.cdle_model.specs.declared.grammar.Sort.{Sort}
-use Rattle.cdle_model.specs.declared.grammar.Sort.TheVariants.{OfTerm, OfType}
-use Rattle.cdle_model.specs.declared.grammar.Class.{Class}
-use Rattle.cdle_model.specs.declared.grammar.Form.{Form}
-use Rattle.cdle_model.specs.declared.grammar.Piece.{Piece}
-use Rattle.cdle_model.specs.declared.grammar.Piece.TheVariants.{Binder, Part, Under}
+use Rattle.std.proofs.Common.{◌≡◌, ℕ, Bool, true, false, cond, List, [], ◌∷◌, ◌++◌, Option, Some, None, Result, Err, refl, sym, ap, ◌∙◌, append_assoc}
 use Rattle.cdle_model.specs.declared.grammar.CoreWanted.{CoreWanted}
-use Rattle.cdle_model.specs.declared.grammar.CoreWanted.TheVariants as wanted
-use Rattle.cdle_model.specs.Trees.{Tree}
-use Rattle.cdle_model.specs.Forms as forms
-use Rattle.cdle_model.specs.Forms.{Written, def_item, type_item, name_of}
-use Rattle.cdle_model.specs.CoreTokens.{Lexeme, Opens, Closes, Word, Token}
-use Rattle.cdle_model.specs.CoreFaults.{Fault, BadText, Unbound, WrongClass, TooDeep, wanted_part, passes_nesting, unexpected}
-use Rattle.cdle_model.specs.CoreGrammar.{form_of, names_of, pieces, made, look_up, item_words, item_pieces, item_parts, made_item}
-use Rattle.cdle_model.specs.Classes.{item_sort}
-use Rattle.cdle_model.specs.CoreNames.{Name, Names, under, behind, stands, same_sort, is_star, with_item, with_items}
-use Rattle.cdle_model.specs.CoreWants.{Want, TheWord, MoreItems, ItemWord, ItemName, PartOf, FormOf, Binding, Closing, word_of, left_of, Wrong, NotBound, OtherClass, fault_at, Step, complaint, a_word, a_form, opening, an_item, for_pieces, goes_on, step, taken, act, ended, run, after, start, place, CanGoOn, NoneGoesOn, IsFirstBadPlace}
-use Rattle.cdle_model.specs.CoreText.{IsText}
+use Rattle.cdle_model.specs.CoreTokens.{Token}
+use Rattle.cdle_model.specs.CoreFaults.{Fault, BadText, TooDeep, passes_nesting}
+use Rattle.cdle_model.specs.CoreNames.{Name}
+use Rattle.cdle_model.specs.CoreWants.{Want, TheWord, MoreItems, ItemWord, ItemName, PartOf, FormOf, Binding, Closing, word_of, left_of, Wrong, NotBound, OtherClass, Step, goes_on, taken, act, ended, run, after, start, place, NoneGoesOn, IsFirstBadPlace}
 use Rattle.cdle_model.proofs.CoreEndings.{Fit, can_end, fit_after}
 use Rattle.cdle_model.proofs.CoreFree.{text_whole, whole_text}
 

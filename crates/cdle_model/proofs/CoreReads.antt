@@ -13,11 +13,11 @@ use Rattle.cdle_model.specs.declared.grammar.CoreWanted.TheVariants as wanted
 use Rattle.cdle_model.specs.Trees.{Tree}
 use Rattle.cdle_model.specs.Forms as forms
 use Rattle.cdle_model.specs.Forms.{Written, def_item, type_item, name_of}
-use Rattle.cdle_model.specs.CoreTokens.{Lexeme, Opens, Closes, Word, Token}
-use Rattle.cdle_model.specs.CoreFaults.{Fault, BadText, Unbound, WrongClass, TooDeep, wanted_part, passes_nesting, unexpected}
+use Rattle.cdle_model.specs.CoreTokens.{Opens, Closes, Word, Token}
+use Rattle.cdle_model.specs.CoreFaults.{Fault, BadText, WrongClass}
 use Rattle.cdle_model.specs.CoreGrammar.{form_of, has_forms, names_of, pieces, made, look_up, item_words, item_pieces, item_parts, made_item}
 use Rattle.cdle_model.specs.Classes.{item_sort}
-use Rattle.cdle_model.specs.CoreNames.{Name, Names, under, behind, stands, same_sort, is_star, with_item, with_items}
+use Rattle.cdle_model.specs.CoreNames.{Name, Names, under, behind, stands, same_sort, is_star, with_item}
 use Rattle.cdle_model.specs.CoreText.{Meaning, Reads, star, name, form, ReadsPieces, end, bind, part, inner, Stands, ReadsItem, ReadsItems, ReadsFile}
 use Rattle.cdle_model.specs.CoreReading.{◌>>=◌, Read, Reader, name_at, close_at, found_form, form_at, known, word_with, leaf, pieces_with, part_with, form_with, inside, part_at, open_at, found_sort, sort_at, item_at, word_at, head_at, Items}
 

@@ -1,5 +1,5 @@
 -- Reading from the left finds the first fault.
-use Rattle.std.proofs.Common.{◌≡◌, ℕ, zero, suc, Bool, true, false, cond, List, [], ◌∷◌, ◌++◌, Option, Some, None, Result, Ok, Err, refl, sym, ap, subst, ◌∙◌, append_assoc, eqb, arith}
+use Rattle.std.proofs.Common.{◌≡◌, ℕ, zero, suc, Bool, true, false, cond, List, [], ◌∷◌, ◌++◌, Option, Some, None, Result, Ok, Err, refl, sym, ap, ◌∙◌, eqb, arith}
 use Rattle.std.specs.Prelude.{codes}
 use Rattle.std.specs.Str.{bytes_eq}
 use Rattle.std.proofs.lemmas.List.{append-nil}
@@ -13,16 +13,14 @@ use Rattle.cdle_model.specs.declared.grammar.Piece.TheVariants.{Binder, Part, Un
 use Rattle.cdle_model.specs.declared.grammar.CoreWanted.{CoreWanted}
 use Rattle.cdle_model.specs.declared.grammar.CoreWanted.TheVariants as wanted
 use Rattle.cdle_model.specs.Trees.{Tree}
-use Rattle.cdle_model.specs.Forms as forms
-use Rattle.cdle_model.specs.Forms.{Written, def_item, type_item, name_of}
-use Rattle.cdle_model.specs.CoreTokens.{Lexeme, Opens, Closes, Word, Token}
-use Rattle.cdle_model.specs.CoreFaults.{Fault, BadText, Unbound, WrongClass, TooDeep, wanted_part, passes_nesting, unexpected}
-use Rattle.cdle_model.specs.CoreGrammar.{form_of, has_forms, names_of, pieces, made, look_up, item_words, item_pieces, item_parts, made_item}
-use Rattle.cdle_model.specs.Classes.{item_sort}
+use Rattle.cdle_model.specs.Forms.{Written}
+use Rattle.cdle_model.specs.CoreTokens.{Opens, Closes, Word, Token}
+use Rattle.cdle_model.specs.CoreFaults.{Fault, BadText, WrongClass, TooDeep, wanted_part}
+use Rattle.cdle_model.specs.CoreGrammar.{form_of, has_forms, names_of, pieces, made, look_up, item_words, item_pieces, made_item}
 use Rattle.cdle_model.specs.CoreNames.{Name, Names, under, behind, stands, same_sort, is_star, with_item, with_items}
-use Rattle.cdle_model.specs.CoreText.{Stands, ReadsPieces, ReadsFile}
+use Rattle.cdle_model.specs.CoreText.{Stands, ReadsFile}
 use Rattle.cdle_model.specs.CoreReading.{◌>>=◌, Read, Reader, name_at, close_at, found_form, form_at, known, word_with, leaf, pieces_with, part_with, form_with, inside, part_at, open_at, found_sort, sort_at, item_at, word_at, head_at, Items}
-use Rattle.cdle_model.specs.CoreWants.{fine, Want, TheWord, MoreItems, ItemWord, ItemName, PartOf, FormOf, Binding, Closing, for_pieces, OtherClass, complaint, Step, a_word, a_form, an_item, goes_on, act, ended, run, start}
+use Rattle.cdle_model.specs.CoreWants.{fine, Want, TheWord, MoreItems, ItemWord, ItemName, PartOf, FormOf, Binding, Closing, for_pieces, OtherClass, complaint, a_word, a_form, an_item, goes_on, act, run, start}
 use Rattle.cdle_model.proofs.CoreAgain.{file_again}
 
 abbrev the_fault : Fault → Result (List Token) Fault

@@ -1,6 +1,5 @@
 -- Where the check of the first forms accepts, there is a derivation.
-use Rattle.std.proofs.Common.{◌≡◌, ℕ, zero, suc, Bool, true, false, cond, List, [], ◌∷◌, ◌++◌, length, Option, Some, None, option_map, refl, sym, ap, subst, ◌∙◌, slice_get, eq-eqb}
-use Rattle.std.specs.Str.{bytes_eq}
+use Rattle.std.proofs.Common.{◌≡◌, ℕ, zero, suc, List, [], ◌∷◌, ◌++◌, length, Option, Some, None, option_map, refl, ap, subst, slice_get}
 use native.Mathlib.Decide.{ℕ_discrete}
 use Rattle.cdle_model.specs.declared.grammar.Sort.{Sort}
 use Rattle.cdle_model.specs.declared.grammar.Sort.TheVariants.{OfTerm, OfType}
@@ -8,8 +7,9 @@ use Rattle.cdle_model.specs.Trees.{Leaf-discrete, Unary-discrete, Function-discr
 use Rattle.cdle_model.specs.Forms.{star, pi, allt, lam, xlam, Written, def_item, type_item, name_of}
 use Rattle.cdle_model.specs.Classes.{types, terms, within, Fits, item_sorts, IsOver, AreOver}
 use Rattle.cdle_model.specs.Erasure.{erased}
-use Rattle.cdle_model.specs.Derivation.{Entry, term_of, type_of, raised, entry, Item, item, a_term, a_type, a_kind, Has, by_rule, var_term, name_term, lam_rule, xlam_rule, var_type, pi_rule, allt_rule, star_rule, signature, IsNew, HasItem, DerivedAfter}
+use Rattle.cdle_model.specs.Derivation.{Entry, term_of, type_of, raised, entry, item, a_term, a_type, Has, by_rule, var_term, name_term, lam_rule, xlam_rule, var_type, pi_rule, allt_rule, star_rule, signature, HasItem, DerivedAfter}
 use Rattle.cdle_model.specs.FirstCheck.{IsFirstType, IsFirstTerm, IsFirstItem, AreFirstItems, type_in, first_type, first_of, FirstVerdict, accepts, refuses, by_types, by_item, by_name, first_check_after}
+use Rattle.cdle_model.proofs.NewNames.{NameTells, name-tells}
 
 -- a context of these sorts, in which each type has the kind `*`
 abbrev IsContext : List Sort → List Entry → Type 0
@@ -69,22 +69,6 @@ term_derived es vs c t b f h g fits e = absurd g
 
 -- ---- items
 
-same_bytes : (w : List ℕ) → bytes_eq w w ≡ true
-same_bytes [] = refl
-same_bytes (b ∷ w) = rw (eq-eqb b b refl, same_bytes w) refl
-
-not_found : (o : Option ℕ) (b : Bool) → cond b (Some 0) (option_map suc o) ≡ None → (b ≡ false) × (o ≡ None)
-not_found None true e = absurd cc
-not_found None false e = (refl, refl)
-not_found (Some n) true e = absurd cc
-not_found (Some n) false e = absurd cc
-
-new_name : (x : List ℕ) (es : List Written) → first_of x es ≡ None → IsNew x es
-new_name x [] e = tt
-new_name x (w ∷ es) e =
-    let n = not_found (first_of x es) (bytes_eq (name_of w) x) e in
-    ((λ same. let is = subst (λ (y : List ℕ). bytes_eq (name_of w) y ≡ true) same (same_bytes (name_of w)) in let no = n.0 in cc), new_name x es n.1)
-
 more_items : (es : List Written) (w : Written) → AreFirstItems es → IsFirstItem w → AreFirstItems (es ++ (w ∷ []))
 more_items [] w h g = (g, tt)
 more_items (e ∷ es) w h g = (h.0, more_items es w h.1 g)
@@ -113,4 +97,4 @@ derived_after es [] f over g e = tt
 derived_after es (w ∷ ws) f over g e =
     let n = passed_name (length es) (first_of (name_of w) es) _ e in
     let i = item_derived es w _ f over.0 g.0 n.1 in
-    (new_name (name_of w) es n.0, i.0, derived_after (es ++ (w ∷ [])) ws (more_items es w f g.0) over.1 g.1 i.1)
+    (subst (NameTells (name_of w) es) n.0 (name-tells (name_of w) es), i.0, derived_after (es ++ (w ∷ [])) ws (more_items es w f g.0) over.1 g.1 i.1)

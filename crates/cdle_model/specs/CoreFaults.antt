@@ -1,5 +1,5 @@
 -- The faults of a Core text.
-use Rattle.std.specs.Prelude.{ℕ, Bool, true, false, ◌&&◌, ◌==◌, if◌then◌else◌}
+use Rattle.std.specs.Prelude.{ℕ, Bool, false, ◌==◌, if◌then◌else◌}
 use Rattle.cdle_model.specs.declared.grammar.Class.{Class}
 use Rattle.cdle_model.specs.declared.grammar.Class.TheVariants as class
 use Rattle.cdle_model.specs.declared.grammar.CoreWanted.{CoreWanted}

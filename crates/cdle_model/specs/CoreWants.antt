@@ -1,5 +1,5 @@
 -- The first fault of a Core text: what the grammar wants at each place, and what a token does there.
-use Rattle.std.specs.Prelude.{◌≡◌, ℕ, zero, suc, Bool, true, false, List, [], ◌∷◌, ◌++◌, length, if◌then◌else◌, codes, Option, Some, None, Result, Ok, Err}
+use Rattle.std.specs.Prelude.{◌≡◌, ℕ, zero, suc, false, List, [], ◌∷◌, ◌++◌, length, if◌then◌else◌, codes, Option, Some, None, Result, Ok, Err}
 use Rattle.std.specs.Str.{bytes_eq, IsUtf8}
 use Rattle.cdle_model.specs.Trees.{Tree}
 use Rattle.cdle_model.specs.declared.grammar.Sort.{Sort}

@@ -1,6 +1,6 @@
 -- Derivations by Core's rules: of terms, types and kinds in a context over a signature, and of a list of items.
-use Rattle.std.specs.Prelude.{◌≡◌, ℕ, zero, suc, List, [], ◌∷◌, ◌++◌, Option, Some, None, slice_get, option_map}
-use Rattle.cdle_model.specs.Trees.{Tree, var, name, shift, put, IsRaised}
+use Rattle.std.specs.Prelude.{◌≡◌, ℕ, zero, suc, true, List, [], ◌∷◌, ◌++◌, Option, Some, None, slice_get, option_map}
+use Rattle.cdle_model.specs.Trees.{Tree, var, name, shift, put, lacks}
 use Rattle.cdle_model.specs.Forms.{star, kpi, kpit, pi, all, allt, tlam, xtlam, at_, on, iota, eq, fn, lam, elam, xlam, app, eapp, tapp, pair, fst, snd, beta, rho, phi, delta, Written, def_item, type_item, name_of}
 use Rattle.cdle_model.specs.Erasure.{erased}
 use Rattle.cdle_model.specs.Steps.{Joined}
@@ -55,7 +55,7 @@ mutual
         → Rule is a_term c (name n) a
     lam_rule : {c : List Entry} {a t b : Tree} → Has is a_type c a star → Has is a_term (term_of (erased a) ∷ c) t b
         → Rule is a_term c (lam a t) (pi (erased a) b)
-    elam_rule : {c : List Entry} {a t b : Tree} → Has is a_type c a star → Has is a_term (term_of (erased a) ∷ c) t b → IsRaised (erased t)
+    elam_rule : {c : List Entry} {a t b : Tree} → Has is a_type c a star → Has is a_term (term_of (erased a) ∷ c) t b → lacks 0 (erased t) ≡ true
         → Rule is a_term c (elam a t) (all (erased a) b)
     xlam_rule : {c : List Entry} {k t b : Tree} → Has is a_kind c k star → Has is a_term (type_of (erased k) ∷ c) t b
         → Rule is a_term c (xlam k t) (allt (erased k) b)

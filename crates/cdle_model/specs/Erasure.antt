@@ -1,6 +1,6 @@
 -- Erasure: a term to a pure term, a type to a guide, a kind to a guide kind.
 use Rattle.std.specs.Prelude.{◌≡◌, true}
-use Rattle.cdle_model.specs.Trees.{of_pure, group_of, rho_of, phi_of, pair_of, guide_of, Tree, var, name, leaf, unary, fun, apply, binary, bind, put, lacks}
+use Rattle.cdle_model.specs.Trees.{group_of, rho_of, phi_of, pair_of, guide_of, Tree, var, name, leaf, unary, fun, apply, binary, bind, put, lacks}
 use Rattle.cdle_model.specs.Forms.{star, kpi, kpit, pi, all, allt, at_, on, iota, tlam, xtlam, guide_tlam, guide_xtlam, fn, ap, lam, elam, xlam, app, eapp, tapp, fst, snd, beta, delta}
 
 -- an erased binder's variable is taken out of the numbering

@@ -3,8 +3,15 @@ pub mod Forms
 pub mod Depth
 pub mod Classes
 pub mod Erasure
+pub mod Substitution
 pub mod Steps
 pub mod Derivation
+pub mod Machine
+pub mod HeadForms
+pub mod Comparison
+pub mod Fitting
+pub mod Check
+pub mod Examples
 pub mod FirstCheck
 pub mod Code
 pub mod ItemCode

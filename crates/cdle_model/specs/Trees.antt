@@ -1,5 +1,5 @@
 -- Nameless trees: one type for Core's terms, types and kinds, for pure terms, and for erased types and kinds.
-use Rattle.std.specs.Prelude.{◌≡◌, ℕ, suc, ◌+◌, ◌<◌, pred, Bool, true, false, cond, ltb, eqb}
+use Rattle.std.specs.Prelude.{ℕ, suc, ◌+◌, ◌<◌, pred, Bool, true, false, cond, ltb, eqb}
 
 -- what a function takes, and what it is: a pure term over a pure term, a type over a term, a type over a type
 pub data Function : Type 0 where
@@ -76,10 +76,6 @@ lacks k (fun c p) = lacks (suc k) p
 lacks k (apply c p q) = cond (lacks k p) (lacks k q) false
 lacks k (binary j p q) = cond (lacks k p) (lacks k q) false
 lacks k (bind f p q) = cond (lacks k p) (lacks (suc k) q) false
-
--- the innermost variable is not in the tree: it stands under a binder that it does not use
-abbrev pub IsRaised : Tree → Type 0
-IsRaised t = (p : Tree) × (t ≡ shift 0 1 p)
 
 -- every free variable is below `k`; the tree is closed where k is 0
 abbrev pub IsBelow : ℕ → Tree → Type 0

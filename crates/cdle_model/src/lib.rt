@@ -1,14 +1,25 @@
 //! Core's definitions, and their laws: what the contracts of all the crates above cite.
 //!
-//! `specs/` has the definitions, in the subject's order: trees, their classes and erasure, steps and equality, derivations; then Core
-//! text, and the reports of the program. Each law is the contract of a function of `laws.rt` whose body is empty, and so is proved at
-//! every check. The crate stands on nothing, and no code runs here but the few plain types that definitions and code both name.
+//! `specs/` has the definitions, in the subject's order: trees, their classes and erasure, steps and equality, derivations, head forms and
+//! comparison with a number of units, the plain check; then Core text, and the reports of the program. Each law is the contract of a
+//! function of `core_laws.rt` or `laws.rt` whose body is empty, and so is proved at every check, and `core_examples.rt` has worked lists of
+//! items. The crate stands on nothing, and no code runs here but the few plain types that definitions and code both name.
 #![tactic(auto)]
 
+mod core_examples;
+mod core_laws;
 mod grammar;
 mod laws;
 mod text;
 
+pub use core_examples::{examples_are_accepted, examples_are_refused, examples_are_spent};
+pub use core_laws::{
+    accepted_list_is_derived, apart_is_not_joined, check_keeps_classes, erasure_commutes,
+    erasure_keeps_classes, items_are_a_signature, joined_is_a_congruence,
+    larger_budget_keeps_answer, missing_variable_is_lowered, only_depth_ends_early,
+    refused_list_is_not_derived, renumbering_commutes, same_is_joined, steps_are_confluent,
+    steps_keep_classes, types_are_unique, undecided_is_spent,
+};
 pub use grammar::{Class, CoreWanted, Count, Form, Piece, Sort};
 pub use laws::{
     accepted_is_derived, bad_text_is_first, one_text_one_tree, read_items_are_items,
