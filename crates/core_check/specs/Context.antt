@@ -2,7 +2,7 @@
 use Rattle.std.specs.Prelude.{◌≤◌, ℕ, List, [], ◌∷◌, All, length}
 use Rattle.cdle_model.specs.declared.grammar.Sort.{Sort}
 use Rattle.cdle_model.specs.declared.grammar.Sort.TheVariants.{OfTerm, OfType}
-use Rattle.cdle_model.specs.Trees.{Tree, IsBelow}
+use Rattle.cdle_model.specs.Trees.{Tree, IsBelow, shift}
 use Rattle.cdle_model.specs.Forms.{star}
 use Rattle.cdle_model.specs.Depth.{depth}
 use Rattle.cdle_model.specs.FirstCheck.{IsFirstType}
@@ -25,6 +25,11 @@ abbrev pub IsSound : Context → Type 0
 IsSound Empty = Unit {0}
 IsSound (Term' ty p outer) = IsFirstType ty.now × IsBelow (length (sorts outer)) ty.now × (depth ty.now ≤ 4096) × IsSound outer
 IsSound (Type' p outer) = IsSound outer
+
+-- what is known of a variable, as it stands under so many more binders
+abbrev pub lifted : ℕ → Entry → Entry
+lifted by (term_of a) = term_of (shift 0 by a)
+lifted by (type_of k) = type_of (shift 0 by k)
 
 -- ---- the types of the items so far
 
