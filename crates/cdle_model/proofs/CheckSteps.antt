@@ -1,18 +1,17 @@
 -- What each step of the plain check tells: what follows from what it gives, and from a refusal.
-use Rattle.std.proofs.Common.{◌≡◌, ℕ, zero, suc, Bool, true, false, cond, ltb, List, None, refl, sym, ◌∙◌, subst, arith}
+use Rattle.std.proofs.Common.{◌≡◌, ℕ, Bool, true, false, cond, ltb, List, None, refl, sym, subst, arith}
 use Rattle.cdle_model.specs.Trees.{of_pure, of_term, of_type, Binary, eq_of, Binder, Binder-discrete, Tree, var, name, leaf, unary, fun, apply, binary, bind}
 use Rattle.cdle_model.specs.Forms.{eq}
 use Rattle.cdle_model.specs.Depth.{depth}
-use Rattle.cdle_model.specs.Steps.{end, forth, Joined}
-use Rattle.cdle_model.specs.Machine.{Outcome, answered, spent, run}
-use Rattle.cdle_model.specs.HeadForms.{deep, deepest, HeadStep, none, to, blocked, head_step, at, fallen, HeadAnswer, value, no_value, head_move, head_form}
+use Rattle.cdle_model.specs.Steps.{end, Joined}
+use Rattle.cdle_model.specs.Machine.{Outcome, answered, spent}
+use Rattle.cdle_model.specs.HeadForms.{deep, deepest, none, head_step, HeadAnswer, value, no_value, head_form}
 use Rattle.cdle_model.specs.Comparison.{former, binary_head, head_of, function_of, Answer, same, apart, halted, compare}
 use Rattle.cdle_model.specs.Derivation.{Item, bodies}
 use Rattle.cdle_model.specs.Check.{Reason, Finding, gives, refused, Questions, finds, refuse, halt, ask_same, ask_head, at_part, binder_parts, equation_parts, unless_deep, by_answer, by_head, answer}
-use Rattle.cdle_model.proofs.Runs.{stops, goes}
 use Rattle.cdle_model.proofs.Rewriting.{linked-join, linked-turn}
 use Rattle.cdle_model.proofs.HeadParts.{form_of, same-form}
-use Rattle.cdle_model.proofs.SameJoined.{Moves, move-moves, compare-joined}
+use Rattle.cdle_model.proofs.SameJoined.{compare-joined, head-joins}
 use Rattle.cdle_model.proofs.ApartNotJoined.{heads-joined, compare-apart}
 use Rattle.cdle_model.proofs.Signatures.{ClosedItems}
 
@@ -52,24 +51,6 @@ former-same e = grind arith
 
 two-clash : {j : Binary} → binary_head j ≡ binary_head eq_of → j ≡ eq_of
 two-clash e = grind arith
-
--- a head form is joined with its tree, and has nothing to do at its head
-head-is : (s : List Tree) (n : ℕ) (a : Tree) (x : HeadStep) → head_step s a ≡ x → (b : Tree) (left : ℕ) → head_form s n a ≡ answered (value b) left → Joined s a b × (head_step s b ≡ none)
-head-is s n a none e b left h =
-    let f : answered (value a) n ≡ answered (value b) left = sym (stops (head_move s) (at a) (value a) (rw e refl) n) ∙ h in
-    let i : a ≡ b = cc in subst (λ z. Joined s a z × (head_step s z ≡ none)) i (end, e)
-head-is s zero a (to c) e b left h = let f : spent ≡ answered (value b) left = (rw (e, run) at h) in cc
-head-is s (suc n) a (to c) e b left h =
-    let f : head_form s n c ≡ answered (value b) left = sym (goes (head_move s) (at a) (at c) (rw e refl) n) ∙ h in
-    let (i, j) = head-is s n c (head_step s c) refl b left f in
-    (forth (subst (Moves s a) e (move-moves s a)) i, j)
-head-is s zero a (blocked z) e b left h = let f : spent ≡ answered (value b) left = (rw (e, run) at h) in cc
-head-is s (suc n) a (blocked z) e b left h =
-    let f : run (head_move s) n (fallen z) ≡ answered (value b) left = sym (goes (head_move s) (at a) (fallen z) (rw e refl) n) ∙ h in
-    let g : answered (no_value z) n ≡ answered (value b) left = sym (stops (head_move s) (fallen z) (no_value z) refl n) ∙ f in cc
-
-pub head-joins : (s : List Tree) (n : ℕ) (a b : Tree) (left : ℕ) → head_form s n a ≡ answered (value b) left → Joined s a b × (head_step s b ≡ none)
-head-joins s n a = head-is s n a (head_step s a) refl
 
 module _ (is : List Item) (g' : ClosedItems is) where
   -- a head form that is joined with a form of a binder has its head

@@ -1,10 +1,10 @@
--- The answer `same` of plain comparison comes only where the two are joined.
+-- The answer `same` of plain comparison comes only where the two are joined, and a head form is joined with its tree.
 use Rattle.std.proofs.Common.{◌≡◌, inl, ℕ, zero, suc, Bool, true, false, cond, ltb, List, [], ◌∷◌, ◌++◌, Option, Some, None, slice_get, refl, sym, ap, ◌∙◌, subst, arith}
 use Rattle.cdle_model.specs.Trees.{Function, of_pure, of_term, of_type, Tree, var, name, leaf, unary, fun, apply, binary, bind}
 use Rattle.cdle_model.specs.Steps.{contract, unfold_name, here, in_head, Step, Joined, end, forth, back}
 use Rattle.cdle_model.specs.Machine.{Move, stop, go, answered, spent, run}
 use Rattle.cdle_model.specs.Depth.{depth}
-use Rattle.cdle_model.specs.HeadForms.{deep, deepest, HeadStep, none, to, blocked, contraction, unfolding_of, step_under, if_same, ill_applied, head_step}
+use Rattle.cdle_model.specs.HeadForms.{deep, deepest, HeadStep, none, to, blocked, contraction, unfolding_of, step_under, if_same, ill_applied, head_step, at, fallen, value, no_value, head_move, head_form}
 use Rattle.cdle_model.specs.Comparison.{Pair, Split, into, differ, unsorted, split, Answer, same, State, pairs, taken, past, same_name, move_pairs, move_split, move_taken, move, compare}
 use Rattle.cdle_model.proofs.Rewriting.{linked-join}
 use Rattle.cdle_model.proofs.Runs.{stops, goes}
@@ -112,3 +112,21 @@ run-same s (suc n) t (go u) e left h =
 -- where the comparison at some budget says same, the two are joined
 pub compare-joined : (s : List Tree) (n : ℕ) (a b : Tree) (left : ℕ) → compare s n a b ≡ answered same left → Joined s a b
 compare-joined s n a b left e = (run-same s n (pairs ((a, b) ∷ [])) (move s (pairs ((a, b) ∷ []))) refl left e).0
+
+-- a head form is joined with its tree, and has nothing to do at its head
+head-is : (s : List Tree) (n : ℕ) (a : Tree) (x : HeadStep) → head_step s a ≡ x → (b : Tree) (left : ℕ) → head_form s n a ≡ answered (value b) left → Joined s a b × (head_step s b ≡ none)
+head-is s n a none e b left h =
+    let f : answered (value a) n ≡ answered (value b) left = sym (stops (head_move s) (at a) (value a) (rw e refl) n) ∙ h in
+    let i : a ≡ b = cc in subst (λ z. Joined s a z × (head_step s z ≡ none)) i (end, e)
+head-is s zero a (to c) e b left h = let f : spent ≡ answered (value b) left = (rw (e, run) at h) in cc
+head-is s (suc n) a (to c) e b left h =
+    let f : head_form s n c ≡ answered (value b) left = sym (goes (head_move s) (at a) (at c) (rw e refl) n) ∙ h in
+    let (i, j) = head-is s n c (head_step s c) refl b left f in
+    (forth (subst (Moves s a) e (move-moves s a)) i, j)
+head-is s zero a (blocked z) e b left h = let f : spent ≡ answered (value b) left = (rw (e, run) at h) in cc
+head-is s (suc n) a (blocked z) e b left h =
+    let f : run (head_move s) n (fallen z) ≡ answered (value b) left = sym (goes (head_move s) (at a) (fallen z) (rw e refl) n) ∙ h in
+    let g : answered (no_value z) n ≡ answered (value b) left = sym (stops (head_move s) (fallen z) (no_value z) refl n) ∙ f in cc
+
+pub head-joins : (s : List Tree) (n : ℕ) (a b : Tree) (left : ℕ) → head_form s n a ≡ answered (value b) left → Joined s a b × (head_step s b ≡ none)
+head-joins s n a = head-is s n a (head_step s a) refl

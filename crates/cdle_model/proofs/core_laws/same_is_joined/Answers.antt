@@ -1,5 +1,4 @@
-use Rattle.cdle_model.proofs.SameJoined.{compare-joined}
-use Rattle.cdle_model.proofs.CheckSteps.{head-joins}
+use Rattle.cdle_model.proofs.SameJoined.{compare-joined, head-joins}
 use Rattle.cdle_model.proofs.core_laws.same_is_joined.Goals as goal
 
 pub returns : goal.returns
