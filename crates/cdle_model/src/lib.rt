@@ -25,8 +25,21 @@ pub use laws::{
     accepted_is_derived, bad_text_is_first, one_text_one_tree, read_items_are_items,
     said_is_faultless,
 };
+use std::alloc::{AllocError, AllocFailed};
 pub use text::Text;
 
 /// Memory was wanted and not there.
 #[derive(Clone, Copy, Debug, PartialEq, Eq)]
 pub struct NoMemory;
+
+impl From<AllocError> for NoMemory {
+    fn from(_: AllocError) -> NoMemory {
+        NoMemory
+    }
+}
+
+impl<T: Drop> From<AllocFailed<T>> for NoMemory {
+    fn from(_: AllocFailed<T>) -> NoMemory {
+        NoMemory
+    }
+}

@@ -31,6 +31,8 @@ IsTextOf (lexemes.Word w) = IsUtf8 w.now
 
 pub record IsNext (bytes : List ℕ) (from : ℕ) (t : code.Token) : Type 0 where
   pub begins : from ≤ t.at
+  pub start : IsCharBoundary bytes t.at
+  pub here : rest bytes t.at ≡ rest bytes from
   pub ahead : t.at < t.end
   pub boundary : IsCharBoundary bytes t.end
   pub first : rest bytes from ≡ (t.at, lexeme_of t.lexeme) ∷ rest bytes t.end

@@ -3,7 +3,7 @@ use Rattle.std.specs.Prelude.{◌≡◌, ℕ, ◌<◌, false, List, ◌++◌, le
 use Rattle.std.specs.Str.{IsCharBoundary}
 use Rattle.cdle_model.specs.Trees.{Tree}
 use Rattle.cdle_model.specs.CoreFaults.{Fault, BadText, Unbound, WrongClass, TooDeep}
-use Rattle.cdle_model.specs.CoreTokens.{Token, tokens}
+use Rattle.cdle_model.specs.CoreTokens.{IsWordAt, Token, tokens}
 use Rattle.cdle_model.specs.CoreReading.{Read, ◌>>=◌}
 use Rattle.core_text.specs.declared.error.CoreTextFault.{CoreTextFault}
 use Rattle.core_text.specs.declared.error.CoreTextFault.TheVariants as faults
@@ -34,3 +34,18 @@ pub record Advances (bytes : List ℕ) (from to : ℕ) : Type 0 where
 -- what was read before, and what is still read
 abbrev pub with_front : List Tree → Read (List Tree) → Read (List Tree)
 with_front front read = read >>= λ x. Ok (front ++ x.0, x.1)
+
+-- a name that is wrong stands at that place, where a character begins
+abbrev pub IsNamePlace : List ℕ → ℕ → Type 0
+IsNamePlace bytes at = IsCharBoundary bytes at × (w : List ℕ) × IsWordAt bytes at w
+
+abbrev pub IsPlaced : List ℕ → CoreTextFault → Type 0
+IsPlaced bytes (faults.Unbound at) = IsNamePlace bytes at
+IsPlaced bytes (faults.WrongClass at) = IsNamePlace bytes at
+IsPlaced bytes e = Unit {0}
+
+-- a wrong name stands just there
+abbrev pub IsAt : ℕ → CoreTextFault → Type 0
+IsAt at (faults.Unbound here) = here ≡ at
+IsAt at (faults.WrongClass here) = here ≡ at
+IsAt at e = Unit {0}

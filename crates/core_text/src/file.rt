@@ -4,6 +4,7 @@ ghost use Rattle.cdle_model.specs.Classes.{item_sort};
 ghost use Rattle.cdle_model.specs.CoreText.{Says};
 ghost use Rattle.core_tree.specs.Items.{written};
 ghost use Rattle.core_text.specs.File.{IsFaultOf};
+ghost use Rattle.core_text.specs.View.{IsPlaced};
 ghost use Rattle.core_text.specs.Scope.{known_names};
 
 use crate::error::CoreTextFault;
@@ -33,6 +34,7 @@ pub fn read_core(alloc: Global, bytes: &[u8], known: &CoreScope) -> Result<CoreF
     ensures ok { IfOk result (λ file. Says bytes.now (known_names known.now) file.items) }
     ensures few { IfOk result (λ file. length file.items ≤ length bytes.now) }
     ensures err { IfErr result (IsFaultOf bytes.now (known_names known.now)) }
+    ensures placed { IfErr result (IsPlaced bytes.now) }
 {
     if let Err(e) = std::str::from_utf8(bytes) {
         return Err(CoreTextFault::NotUtf8 {

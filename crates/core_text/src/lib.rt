@@ -20,3 +20,4 @@ pub use cdle_model::CoreWanted;
 pub use error::CoreTextFault;
 pub use file::read_core;
 pub use scope::CoreScope;
+pub use words::word_at;

@@ -1,10 +1,10 @@
 //! Reading parts and items from the left.
-ghost use Rattle.std.specs.Prelude.{◌≡◌, ◌+◌, ◌<◌, ◌≤◌, ◌^◌, ◌++◌, length, IfOk};
+ghost use Rattle.std.specs.Prelude.{◌≡◌, ◌+◌, ◌<◌, ◌≤◌, ◌^◌, ◌++◌, length, IfErr, IfOk};
 ghost use Rattle.std.specs.Str.{IsCharBoundary, IsUtf8};
 ghost use Rattle.cdle_model.specs.CoreReading.{leaf, part_at, form_with, item_at};
 ghost use Rattle.cdle_model.specs.Depth.{depth};
 ghost use Rattle.core_tree.specs.Items.{written};
-ghost use Rattle.core_text.specs.View.{rest, Gives, Advances};
+ghost use Rattle.core_text.specs.View.{rest, Advances, Gives, IsAt, IsPlaced};
 ghost use Rattle.core_text.specs.Parts.{part_tree, class_of};
 ghost use Rattle.core_text.specs.Scope.{names, known_names, scope_of};
 
@@ -47,6 +47,7 @@ impl<'a> Reader<'a> {
         ensures gives { (ts : _) → Gives (λ x. (part_tree x, ts)) result (leaf at (scope_of binders.now self.now.own.now self.now.known.now) class word.now ts) }
         ensures class { IfOk result (λ x. class_of x ≡ class) }
         ensures shallow { IfOk result (λ x. depth (part_tree x) ≡ 0) }
+        ensures placed { IfErr result (IsAt at) }
     {
         let star = word == b"*".as_slice();
         match class {
@@ -107,6 +108,7 @@ impl<'a> Reader<'a> {
         ensures gives { Gives (λ x. (part_tree x.0, rest self.now.bytes.now x.1)) result
             (part_at (length self.now.bytes.now) left (scope_of binders.now self.now.own.now self.now.known.now) class (rest self.now.bytes.now from)) }
         ensures advances { IfOk result (λ x. Advances self.now.bytes.now from x.1) }
+        ensures placed { IfErr result (IsPlaced self.now.bytes.now) }
         ensures class { IfOk result (λ x. class_of x.0 ≡ class) }
         ensures shallow { IfOk result (λ x. depth (part_tree x.0) ≤ left) }
     {
@@ -150,6 +152,7 @@ impl<'a> Reader<'a> {
         ensures gives { Gives (λ x. (part_tree x.0, rest self.now.bytes.now x.1)) result
             (form_with (part_at (length self.now.bytes.now) left) (length self.now.bytes.now) left (scope_of binders.now self.now.own.now self.now.known.now) class (rest self.now.bytes.now from)) }
         ensures advances { IfOk result (λ x. Advances self.now.bytes.now from x.1) }
+        ensures placed { IfErr result (IsPlaced self.now.bytes.now) }
         ensures class { IfOk result (λ x. class_of x.0 ≡ class) }
         ensures shallow { IfOk result (λ x. depth (part_tree x.0) ≤ left + 1) }
     {
@@ -209,6 +212,7 @@ impl<'a> Reader<'a> {
         ensures gives { Gives (λ x. (written x.0, rest self.now.bytes.now x.1)) result
             (item_at (length self.now.bytes.now) (known_names self.now.own.now ++ known_names self.now.known.now) (rest self.now.bytes.now from)) }
         ensures advances { IfOk result (λ x. Advances self.now.bytes.now from x.1) }
+        ensures placed { IfErr result (IsPlaced self.now.bytes.now) }
     {
         let at = open_of(self.bytes, from)?;
         let (sort, at) = sort_of(self.bytes, at)?;

@@ -1,14 +1,15 @@
 //! Reading single tokens, each where the grammar wants it.
-ghost use Rattle.std.specs.Prelude.{◌≡◌, ◌<◌, ◌≤◌, ◌^◌, length, IfOk};
+ghost use Rattle.std.specs.Prelude.{◌≡◌, ◌<◌, ◌≤◌, ◌^◌, length, IfErr, IfOk};
 ghost use Rattle.std.specs.Str.{IsCharBoundary, IsUtf8};
 ghost use Rattle.cdle_model.specs.CoreGrammar.{class_of_form};
+ghost use Rattle.cdle_model.specs.CoreTokens.{IsWordAt};
 ghost use Rattle.cdle_model.specs.CoreReading.{name_at, close_at, form_at, open_at, sort_at, word_at, head_at};
-ghost use Rattle.core_text.specs.View.{rest, Gives, Advances};
+ghost use Rattle.core_text.specs.View.{rest, Advances, Gives, IsNamePlace, IsPlaced};
 ghost use Rattle.core_text.specs.declared.error.CoreTextFault.TheVariants as faults;
 
 use crate::error::CoreTextFault;
 use crate::forms::{find_form, wanted_of};
-use crate::token::{Lexeme, next};
+use crate::token::{Lexeme, Token, next};
 use cdle_model::{Class, CoreWanted, Form, Sort};
 
 pub(crate) fn bad(at: usize, wanted: CoreWanted) -> CoreTextFault
@@ -39,6 +40,7 @@ pub(crate) fn name_of(
     requires start { IsCharBoundary bytes.now from }
     requires short { length bytes.now < 2 ^ 32 }
     ensures gives { Gives (λ x. (x.0.now, rest bytes.now x.1)) result (name_at (length bytes.now) left (rest bytes.now from)) }
+    ensures placed { IfErr result (IsPlaced bytes.now) }
     ensures advances { IfOk result (λ x. Advances bytes.now from x.1) }
     ensures text { IfOk result (λ x. IsUtf8 x.0.now) }
 {
@@ -69,6 +71,7 @@ pub(crate) fn close_of(bytes: &[u8], left: usize, from: usize) -> Result<usize, 
     requires start { IsCharBoundary bytes.now from }
     requires short { length bytes.now < 2 ^ 32 }
     ensures gives { Gives (λ x. rest bytes.now x) result (close_at (length bytes.now) left (rest bytes.now from)) }
+    ensures placed { IfErr result (IsPlaced bytes.now) }
     ensures advances { IfOk result (Advances bytes.now from) }
 {
     match next(bytes, from) {
@@ -98,6 +101,7 @@ pub(crate) fn form_word(
     requires start { IsCharBoundary bytes.now from }
     requires short { length bytes.now < 2 ^ 32 }
     ensures gives { Gives (λ x. (x.0, rest bytes.now x.1)) result (form_at (length bytes.now) left class (rest bytes.now from)) }
+    ensures placed { IfErr result (IsPlaced bytes.now) }
     ensures advances { IfOk result (λ x. Advances bytes.now from x.1) }
     ensures class { IfOk result (λ x. class_of_form x.0 ≡ class) }
 {
@@ -126,6 +130,7 @@ pub(crate) fn open_of(bytes: &[u8], from: usize) -> Result<usize, CoreTextFault>
     requires start { IsCharBoundary bytes.now from }
     requires short { length bytes.now < 2 ^ 32 }
     ensures gives { Gives (λ x. rest bytes.now x) result (open_at (length bytes.now) (rest bytes.now from)) }
+    ensures placed { IfErr result (IsPlaced bytes.now) }
     ensures advances { IfOk result (Advances bytes.now from) }
 {
     match next(bytes, from) {
@@ -144,6 +149,7 @@ pub(crate) fn sort_of(bytes: &[u8], from: usize) -> Result<(Sort, usize), CoreTe
     requires start { IsCharBoundary bytes.now from }
     requires short { length bytes.now < 2 ^ 32 }
     ensures gives { Gives (λ x. (x.0, rest bytes.now x.1)) result (sort_at (length bytes.now) (rest bytes.now from)) }
+    ensures placed { IfErr result (IsPlaced bytes.now) }
     ensures advances { IfOk result (λ x. Advances bytes.now from x.1) }
 {
     match next(bytes, from) {
@@ -172,6 +178,7 @@ fn word_of(
     requires start { IsCharBoundary bytes.now from }
     requires short { length bytes.now < 2 ^ 32 }
     ensures gives { Gives (λ x. rest bytes.now x) result (word_at (length bytes.now) word.now wanted (rest bytes.now from)) }
+    ensures placed { IfErr result (IsPlaced bytes.now) }
     ensures advances { IfOk result (Advances bytes.now from) }
 {
     match next(bytes, from) {
@@ -195,8 +202,27 @@ pub(crate) fn head_of(bytes: &[u8]) -> Result<usize, CoreTextFault>
     requires utf8 { IsUtf8 bytes.now }
     requires short { length bytes.now < 2 ^ 32 }
     ensures gives { Gives (λ x. rest bytes.now x) result (head_at (length bytes.now) (rest bytes.now 0)) }
+    ensures placed { IfErr result (IsPlaced bytes.now) }
     ensures boundary { IfOk result (IsCharBoundary bytes.now) }
 {
     let at = word_of(bytes, b"core".as_slice(), CoreWanted::Core, 0)?;
     word_of(bytes, b"1".as_slice(), CoreWanted::One, at)
+}
+
+/// The word that begins at a place, as a fault's name does.
+pub fn word_at(bytes: &[u8], at: u32) -> &str
+    requires utf8 { IsUtf8 bytes.now }
+    requires name { IsNamePlace bytes.now at }
+    ensures { IsWordAt bytes.now at result.now }
+{
+    match next(bytes, at as usize) {
+        Some(Token {
+            lexeme: Lexeme::Word(word),
+            ..
+        }) => match std::str::from_utf8(word) {
+            Ok(word) => word,
+            Err(_) => unreachable!(),
+        },
+        _ => unreachable!(),
+    }
 }

@@ -11,6 +11,8 @@ returns-then-b-eq40 c =
     let opens : eqb (get_or c.args.bytes.now c.gap_end-at.result 0) 40 ≡ true = grind (arith, nat_tests) in
     record {
       begins = c.gap_end-at.ensures.skips.ahead;
+      start = c.gap_end-at.ensures.skips.boundary;
+      here = c.gap_end-at.ensures.skips.same;
       ahead = omega arith;
       boundary = IsCharBoundary-after_ascii c.args.bytes.now c.gap_end-at.result c.requires.utf8 lt (omega arith);
       first = sym c.gap_end-at.ensures.skips.same ∙ rest_opens c.args.bytes.now c.gap_end-at.result lt plain.0 plain.1 opens;
@@ -25,6 +27,8 @@ returns-then-b-eq41 c =
     let closes : eqb (get_or c.args.bytes.now c.gap_end-at.result 0) 41 ≡ true = grind (arith, nat_tests) in
     record {
       begins = c.gap_end-at.ensures.skips.ahead;
+      start = c.gap_end-at.ensures.skips.boundary;
+      here = c.gap_end-at.ensures.skips.same;
       ahead = omega arith;
       boundary = IsCharBoundary-after_ascii c.args.bytes.now c.gap_end-at.result c.requires.utf8 lt (omega arith);
       first = sym c.gap_end-at.ensures.skips.same ∙ rest_closes c.args.bytes.now c.gap_end-at.result lt plain.0 plain.1 no closes;
@@ -34,6 +38,8 @@ returns-then-b-eq41 c =
 pub returns : goal.returns
 returns c = record {
   begins = c.gap_end-at.ensures.skips.ahead;
+  start = c.gap_end-at.ensures.skips.boundary;
+  here = c.gap_end-at.ensures.skips.same;
   ahead = c.word_end-end.ensures.ahead;
   boundary = c.word_end-end.ensures.boundary;
   first = sym c.gap_end-at.ensures.skips.same ∙ c.word_end-end.ensures.first;

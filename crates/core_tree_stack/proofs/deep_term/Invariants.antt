@@ -1,0 +1,5 @@
+use Rattle.cdle_model.specs.Erasure.{HasErasure}
+use Rattle.core_tree_stack.proofs.deep_term.Given as goal
+
+abbrev pub invariant-loop : goal.invariant-loop
+invariant-loop l = HasErasure l.tree
