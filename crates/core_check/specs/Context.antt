@@ -2,7 +2,7 @@
 use Rattle.std.specs.Prelude.{◌≤◌, ℕ, List, [], ◌∷◌, All, length}
 use Rattle.cdle_model.specs.declared.grammar.Sort.{Sort}
 use Rattle.cdle_model.specs.declared.grammar.Sort.TheVariants.{OfTerm, OfType}
-use Rattle.cdle_model.specs.Trees.{Tree, IsBelow}
+use Rattle.cdle_model.specs.Trees.{Tree, IsBelow, shift}
 use Rattle.cdle_model.specs.Forms.{star}
 use Rattle.cdle_model.specs.Depth.{depth}
 use Rattle.cdle_model.specs.FirstCheck.{IsFirstType}
@@ -26,18 +26,23 @@ IsSound Empty = Unit {0}
 IsSound (Term' ty p outer) = IsFirstType ty.now × IsBelow (length (sorts outer)) ty.now × (depth ty.now ≤ 4096) × IsSound outer
 IsSound (Type' p outer) = IsSound outer
 
+-- what is known of a variable, as it stands under so many more binders
+abbrev pub lifted : ℕ → Entry → Entry
+lifted by (term_of a) = term_of (shift 0 by a)
+lifted by (type_of k) = type_of (shift 0 by k)
+
 -- ---- the types of the items so far
 
 -- the sort of each item: all of them define terms
 abbrev pub term_sorts : List Tree → List Sort
 term_sorts [] = []
-term_sorts (a ∷ as) = OfTerm ∷ term_sorts as
+term_sorts (a ∷ tys) = OfTerm ∷ term_sorts tys
 
 -- items of these types, of whose bodies nothing is asked
 abbrev pub typed : List Tree → List Item
 typed [] = []
-typed (a ∷ as) = record { known = term_of a; body = star } ∷ typed as
+typed (a ∷ tys) = record { known = term_of a; body = star } ∷ typed tys
 
 -- each is of these forms, and no deeper than a written type
 abbrev pub AreTypes : List Tree → Type 0
-AreTypes as = All (λ a. IsFirstType a × (depth a ≤ 4096)) as
+AreTypes tys = All (λ a. IsFirstType a × (depth a ≤ 4096)) tys

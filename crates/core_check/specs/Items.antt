@@ -24,10 +24,10 @@ types_of (w ∷ ws) = type_of_item w ∷ types_of ws
 
 -- what the check says of an item, by its number, over items of these types
 abbrev pub item_verdict : List Tree → ℕ → Written → FirstVerdict → FirstVerdict
-item_verdict as i (def_item x a t) rest = by_types i (first_type (typed as) [] t) (erased a) rest
-item_verdict as i (type_item x k a) rest = unknown i
+item_verdict tys i (def_item x a t) rest = by_types i (first_type (typed tys) [] t) (erased a) rest
+item_verdict tys i (type_item x k a) rest = unknown i
 
 -- the item is closed, over items of these types, with each variable and name used in its class
 abbrev pub IsItemOver : List Tree → Written → Type 0
-IsItemOver as (def_item x a t) = Fits (within [] (term_sorts as)) types a × Fits (within [] (term_sorts as)) terms t
-IsItemOver as (type_item x k a) = ⊥
+IsItemOver tys (def_item x a t) = Fits (within [] (term_sorts tys)) types a × Fits (within [] (term_sorts tys)) terms t
+IsItemOver tys (type_item x k a) = ⊥

@@ -12,7 +12,7 @@ use crate::context::Context;
 use crate::infer::infer;
 use crate::same::is_same;
 use core_tree::{Checked, CoreFault, CoreFile, CoreItem, Guide, Kept, Path, Why};
-use std::alloc::Global;
+use std::alloc::{AllocError, Global};
 use std::collections::HashMap;
 
 /// The body of an item is part 2 of it.
@@ -55,9 +55,8 @@ fn check_item(
 }
 
 /// The items of the files in their order.
-fn all_items<'a>(alloc: Global, files: &'a Vec<CoreFile>) -> Result<Vec<&'a CoreItem>, CoreFault>
-    ensures ok { IfOk result (λ items. map (λ item. written item.now) items.items ≡ items_of files.now.items) }
-    ensures err { IfErr result (λ e. e ≡ Rattle.core_tree.specs.declared.faults.CoreFault.TheVariants.NoMemory) }
+fn all_items<'a>(alloc: Global, files: &'a Vec<CoreFile>) -> Result<Vec<&'a CoreItem>, AllocError>
+    ensures { IfOk result (λ items. map (λ item. written item.now) items.items ≡ items_of files.now.items) }
 {
     let mut items = Vec::new(alloc);
     for file in files {

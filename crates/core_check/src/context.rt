@@ -1,10 +1,10 @@
 //! The binders around a term.
-ghost use Rattle.std.specs.Prelude.{◌≡◌, ◌≤◌, Some, IfOk, length, slice_get};
+ghost use Rattle.std.specs.Prelude.{◌≡◌, ◌+◌, ◌≤◌, Some, IfOk, length, option_map, slice_get};
 ghost use Rattle.cdle_model.specs.Depth.{depth};
 ghost use Rattle.cdle_model.specs.Derivation.{entry};
 ghost use Rattle.cdle_model.specs.FirstCheck.{IsFirstType, type_in};
 ghost use Rattle.cdle_model.specs.declared.grammar.Sort.TheVariants.{OfTerm};
-ghost use Rattle.core_check.specs.Context.{IsSound, entries, sorts};
+ghost use Rattle.core_check.specs.Context.{IsSound, entries, lifted, sorts};
 
 use cdle_model::NoMemory;
 use core_tree::Guide;
@@ -18,31 +18,29 @@ pub(crate) enum Context<'a> {
     Type(&'a Context<'a>),
 }
 
-/// The type of the term's variable of that number.
+/// The type of the term's variable of that number, as it stands under so many more binders.
 pub(crate) fn type_of(
     alloc: Global,
     context: &Context<'_>,
     index: u32,
+    passed: u32,
 ) -> Result<Guide, NoMemory>
     requires sound { IsSound context.now }
-    requires bound { length (sorts context.now) ≤ 4096 }
+    requires bound { length (sorts context.now) + passed ≤ 4096 }
     requires term { slice_get (sorts context.now) index ≡ Some OfTerm }
-    ensures is { IfOk result (λ ty. type_in (entry (entries context.now) index) ≡ Some ty) }
+    ensures is { IfOk result (λ ty. type_in (option_map (lifted passed) (entry (entries context.now) index)) ≡ Some ty) }
     ensures form { IfOk result IsFirstType }
     ensures shallow { IfOk result (λ ty. depth ty ≤ 4096) }
 {
-    let mut rest = context;
-    let mut left = index;
-    'binders: while left > 0 {
-        rest = match rest {
-            Context::Empty => unreachable!(),
-            Context::Term(_, outer) => outer,
-            Context::Type(outer) => outer,
-        };
-        left -= 1;
-    }
-    match rest {
-        Context::Term(ty, _) => ty.shift(alloc, 0, index + 1),
-        _ => unreachable!(),
+    match context {
+        Context::Empty => unreachable!(),
+        Context::Term(ty, outer) => {
+            if index == 0 {
+                Ok(ty.shift(alloc, 0, passed + 1)?)
+            } else {
+                type_of(alloc, outer, index - 1, passed + 1)
+            }
+        }
+        Context::Type(outer) => type_of(alloc, outer, index - 1, passed + 1),
     }
 }

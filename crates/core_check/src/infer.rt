@@ -27,19 +27,19 @@ pub(crate) fn infer(
     ensures shallow { IfOk result (λ ty. depth ty ≤ 4096 + depth term.now) }
 {
     match term.form() {
-        TermForm::Var(index) => type_of(alloc, context, *index),
-        TermForm::Name(item) => share(&types[*item as usize]),
+        TermForm::Var(index) => type_of(alloc, context, *index, 0),
+        TermForm::Name(item) => Ok(share(&types[*item as usize])?),
         TermForm::Lam(ty, part) => {
             let domain = ty.erase(alloc)?;
             let inner = Context::Term(&domain, &*context);
             let body = infer(alloc, types, &inner, part)?;
-            Guide::pi(alloc, &domain, &body)
+            Ok(Guide::pi(alloc, &domain, &body)?)
         }
         TermForm::Xlam(_, part) => {
             let inner = Context::Type(&*context);
             let body = infer(alloc, types, &inner, part)?;
             let star = GuideKind::star(alloc)?;
-            Guide::allt(alloc, &star, &body)
+            Ok(Guide::allt(alloc, &star, &body)?)
         }
         _ => unreachable!(),
     }
