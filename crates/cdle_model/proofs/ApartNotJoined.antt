@@ -14,7 +14,7 @@ use Rattle.cdle_model.proofs.Eta.{put-up}
 use Rattle.cdle_model.proofs.Confluent.{joined-meets}
 use Rattle.cdle_model.proofs.Equality.{joined_apply, joined-shift}
 use Rattle.cdle_model.proofs.Runs.{stops, goes}
-use Rattle.cdle_model.proofs.HeadParts.{AllJoined, form_of, same-form, count, count-parts, IsNeutral, IsOther, neutral-or, function-is, same_heads-cases}
+use Rattle.cdle_model.proofs.HeadParts.{all-append, AllJoined, all-applied, form_of, same-form, count, count-parts, function-is, same_heads-cases}
 use Rattle.cdle_model.proofs.SameJoined.{Moves, move-moves, Good}
 
 contraction-none : (p : Tree) → contraction p ≡ none → ⊥
@@ -63,20 +63,11 @@ all_same : (s : List Tree) (ps : List Tree) → AllJoined s (pairs_of ps ps)
 all_same s [] = tt
 all_same s (p ∷ ps) = (end, all_same s ps)
 
-snoc-pairs : (s : List Tree) (ps qs : List Tree) (p q : Tree) → length ps ≡ length qs → AllJoined s (pairs_of ps qs) → Joined s p q → AllJoined s (pairs_of (ps ++ (p ∷ [])) (qs ++ (q ∷ [])))
-snoc-pairs s [] [] p q e h k = (k, tt)
-snoc-pairs s [] (_ ∷ qs) p q e h k = absurd (grind arith)
-snoc-pairs s (_ ∷ ps) [] p q e h k = absurd (grind arith)
-snoc-pairs s (a ∷ ps) (b ∷ qs) p q e h k = (h.0, snoc-pairs s ps qs p q (grind arith) h.1 k)
-
 -- the parts of two applications
-app-pairs : (s : List Tree) (p q a b : Tree) → head_of p ≡ head_of q → AllJoined s (pairs_of (parts_of p) (parts_of q)) → Joined s p q → Joined s a b
+app-pairs : (s : List Tree) (c : Function) (p q a b : Tree) → head_of p ≡ head_of q → AllJoined s (pairs_of (parts_of p) (parts_of q)) → Joined s p q → Joined s a b
     → AllJoined s (pairs_of (parts_by (head_of p) (parts_of p) p a) (parts_by (head_of q) (parts_of q) q b))
-app-pairs s p q a b e h k l = rw (← e) (by_head (neutral-or (head_of p)))
-  where
-    by_head : IsNeutral (head_of p) ⊎ IsOther (head_of p) → AllJoined s (pairs_of (parts_by (head_of p) (parts_of p) p a) (parts_by (head_of p) (parts_of q) q b))
-    by_head (inl u) = rw (u.1 (parts_of p) p a, u.1 (parts_of q) q b) (snoc-pairs s (parts_of p) (parts_of q) a b (count-parts p ∙ ap count e ∙ sym (count-parts q)) h l)
-    by_head (inr u) = rw (u.1 (parts_of p) p a, u.1 (parts_of q) q b) (k, (l, tt))
+app-pairs s c p q a b e h k l = all-applied (Joined s) c c (head_of p) (head_of q) p q a b (ap (applied_head c) e)
+    (λ i. count-parts p ∙ ap count e ∙ sym (count-parts q)) (λ i. (k, l)) (λ i j. h)
 
 -- b is a head form with the head of a, and with joined parts
 record Keeps (s : List Tree) (a b : Tree) : Type 0 where
@@ -104,9 +95,9 @@ step-keeps s _ _ (in_fun {c = c} {p = p} {q = q} k) e f = record { head = refl; 
 step-keeps s _ _ (in_head {c = c} {p = p} {q = q} {a = a} k) e f =
     let (x, y) = app-value s c p a e in
     let z : Keeps s p q = step-keeps s p q k x y in
-    record { head = ap (applied_head c) z.head; still = app-none s c p q a a z.head e z.still; other = refl; parts = app-pairs s p q a a z.head z.parts (forth k end) end }
+    record { head = ap (applied_head c) z.head; still = app-none s c p q a a z.head e z.still; other = refl; parts = app-pairs s c p q a a z.head z.parts (forth k end) end }
 step-keeps s _ _ (in_arg {c = c} {p = p} {a = a} {b = b} k) e f =
-    record { head = refl; still = app-none s c p p a b refl e (app-value s c p a e).0; other = refl; parts = app-pairs s p p a b refl (all_same s (parts_of p)) end (forth k end) }
+    record { head = refl; still = app-none s c p p a b refl e (app-value s c p a e).0; other = refl; parts = app-pairs s c p p a b refl (all_same s (parts_of p)) end (forth k end) }
 step-keeps s _ _ (in_domain k) e f = record { head = refl; still = refl; other = refl; parts = (forth k end, (end, tt)) }
 step-keeps s _ _ (in_body k) e f = record { head = refl; still = refl; other = refl; parts = (end, (forth k end, tt)) }
 step-keeps s _ _ (in_unary k) e f = record { head = refl; still = refl; other = refl; parts = (forth k end, tt) }
@@ -210,13 +201,9 @@ module _ (s : List Tree) (g : IsSignature s) where
       by_test true = h.1
       by_test false = h
 
-  all-append : (ps qs : List Pair) → AllJoined s ps → AllJoined s qs → AllJoined s (ps ++ qs)
-  all-append [] qs h k = k
-  all-append (p ∷ ps) qs h k = (h.0, all-append ps qs h.1 k)
-
   split-onward : (o : Split) (a b : Tree) (ps : List Pair) → Fine o → AllJoined s ps → Onward (move_split o a b ps)
   unfolding Fine Onward
-  split-onward (into qs) a b ps h k = pairs-onward (qs ++ ps) (all-append qs ps h k)
+  split-onward (into qs) a b ps h k = pairs-onward (qs ++ ps) (all-append (Joined s) qs ps h k)
   split-onward differ a b ps h k = absurd h
   split-onward unsorted a b ps h k = tt
 

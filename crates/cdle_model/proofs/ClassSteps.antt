@@ -1,5 +1,5 @@
 -- Head forms and comparison of erased trees of a class: their moves, parts and pairs stay in a class, so they never end as ill classed.
-use Rattle.std.proofs.Common.{◌≡◌, ◌⊎◌, inl, inr, ℕ, zero, suc, Bool, true, false, cond, ltb, List, [], ◌∷◌, ◌++◌, length, Option, Some, None, slice_get, refl, sym, ap, ◌∙◌, subst, arith}
+use Rattle.std.proofs.Common.{◌≡◌, ◌⊎◌, inl, inr, ℕ, zero, suc, Bool, true, false, cond, ltb, List, [], ◌∷◌, ◌++◌, Option, Some, None, slice_get, refl, sym, ap, ◌∙◌, subst, arith}
 use Rattle.cdle_model.specs.declared.grammar.Sort.{Sort}
 use Rattle.cdle_model.specs.declared.grammar.Sort.TheVariants.{OfTerm, OfType}
 use Rattle.cdle_model.specs.Trees.{Function, of_pure, of_term, of_type, Binary, Binder, Tree, var, name, leaf, unary, fun, apply, binary, bind, put}
@@ -7,11 +7,11 @@ use Rattle.cdle_model.specs.Depth.{depth}
 use Rattle.cdle_model.specs.Classes.{TreeClass, pure_terms, guides, guide_kinds, within, fun_places, apply_places, binary_places, bind_places, Fits}
 use Rattle.cdle_model.specs.Machine.{Move, stop, go, Outcome, answered, spent, run}
 use Rattle.cdle_model.specs.HeadForms.{Halt, deep, deepest, HeadStep, none, to, blocked, contraction, unfolding_of, step_under, head_step, at, fallen, HeadAnswer, value, no_value, head_move, head_form}
-use Rattle.cdle_model.specs.Comparison.{Head, variable, constant, argument, stuck, applied_head, head_of, parts_by, parts_of, Pair, pairs_of, function_of, applied, Split, into, differ, unsorted, same_heads, against, split_by, split, Answer, halted, State, pairs, taken, past, same_name, move_pairs, move_split, move_taken, move, compare}
+use Rattle.cdle_model.specs.Comparison.{Head, variable, constant, argument, applied_head, head_of, parts_of, Pair, pairs_of, function_of, applied, Split, into, differ, unsorted, same_heads, against, split_by, split, Answer, halted, State, pairs, taken, past, same_name, move_pairs, move_split, move_taken, move, compare}
 use Rattle.cdle_model.specs.Fitting.{IsErased, class_of, BodiesFit}
 use Rattle.cdle_model.proofs.Placed.{body_to, parts_to, domain_to, body_both, parts_both, domain_both, no_unary, fun_erased, apply_erased, binary_erased, bind_erased}
 use Rattle.cdle_model.proofs.Runs.{stops, spends, goes}
-use Rattle.cdle_model.proofs.HeadParts.{form_of, same-form, count, count-parts, IsNeutral, IsOther, neutral-or, function-is, same_heads-cases}
+use Rattle.cdle_model.proofs.HeadParts.{AllPairs, all-append, all-applied, form_of, same-form, count, count-parts, function-is, same_heads-cases}
 use Rattle.cdle_model.proofs.ApartNotJoined.{app-value}
 use Rattle.cdle_model.proofs.ClassSubstitution.{fits-put, fits-shift, fits-closed}
 
@@ -88,18 +88,7 @@ module _ (zs : List Sort) (s : List Tree) (w : BodiesFit zs s) where
   PairFits a b = (vs : List Sort) × (c : TreeClass) × IsErased c × Fits (within vs zs) c a × Fits (within vs zs) c b
 
   abbrev AllFit : List Pair → Type 0
-  AllFit [] = Unit {0}
-  AllFit (p ∷ ps) = PairFits p.0 p.1 × AllFit ps
-
-  all-fit : (ps qs : List Pair) → AllFit ps → AllFit qs → AllFit (ps ++ qs)
-  all-fit [] qs h k = k
-  all-fit (p ∷ ps) qs h k = (h.0, all-fit ps qs h.1 k)
-
-  snoc-fit : (ps qs : List Tree) (p q : Tree) → length ps ≡ length qs → AllFit (pairs_of ps qs) → PairFits p q → AllFit (pairs_of (ps ++ (p ∷ [])) (qs ++ (q ∷ [])))
-  snoc-fit [] [] p q e h k = (k, tt)
-  snoc-fit [] (_ ∷ qs) p q e h k = absurd (grind arith)
-  snoc-fit (_ ∷ ps) [] p q e h k = absurd (grind arith)
-  snoc-fit (a ∷ ps) (b ∷ qs) p q e h k = (h.0, snoc-fit ps qs p q (grind arith) h.1 k)
+  AllFit = AllPairs PairFits
 
   pair-fits : (vs : List Sort) (x : TreeClass) (p q : Tree) → (IsErased x × Fits (within vs zs) x p) × Fits (within vs zs) x q → PairFits p q
   pair-fits vs x p q h = (vs, x, h.0.0, h.0.1, h.1)
@@ -117,26 +106,6 @@ module _ (zs : List Sort) (s : List Tree) (w : BodiesFit zs s) where
   binder-parts vs c f p q p' q' h k g =
       domain_to (bind_places c f) _ _ (λ x. pair-fits vs x p p') (λ v x. pair-fits (v ∷ vs) x q q') (domain_both (bind_places c f) _ _ _ _ (bind_erased c f _ _ g h) k)
 
-  -- two applications with one head
-  apply-fit : (f f' : Function) (h k : Head) (p p' q q' : Tree) → applied_head f h ≡ applied_head f' k
-      → (h ≡ k → length (parts_of p) ≡ length (parts_of p')) → (f ≡ f' → PairFits p p' × PairFits q q')
-      → (h ≡ k → PairFits p p' → AllFit (pairs_of (parts_of p) (parts_of p')))
-      → AllFit (pairs_of (parts_by h (parts_of p) p q) (parts_by k (parts_of p') p' q'))
-  apply-fit f f' h k p p' q q' e n g r = by_heads (neutral-or h) (neutral-or k)
-    where
-      by_heads : IsNeutral h ⊎ IsOther h → IsNeutral k ⊎ IsOther k → AllFit (pairs_of (parts_by h (parts_of p) p q) (parts_by k (parts_of p') p' q'))
-      by_heads (inl u) (inl v) =
-          let i : argument f h ≡ argument f' k = sym (u.0 f) ∙ e ∙ v.0 f' in
-          let j : f ≡ f' = grind arith in
-          let l : h ≡ k = grind arith in
-          rw (u.1 (parts_of p) p q, v.1 (parts_of p') p' q') (snoc-fit (parts_of p) (parts_of p') q q' (n l) (r l (g j).0) (g j).1)
-      by_heads (inl u) (inr v) = let i : argument f h ≡ stuck f' = sym (u.0 f) ∙ e ∙ v.0 f' in absurd (grind arith)
-      by_heads (inr u) (inl v) = let i : stuck f ≡ argument f' k = sym (u.0 f) ∙ e ∙ v.0 f' in absurd (grind arith)
-      by_heads (inr u) (inr v) =
-          let i : stuck f ≡ stuck f' = sym (u.0 f) ∙ e ∙ v.0 f' in
-          let j : f ≡ f' = grind arith in
-          rw (u.1 (parts_of p) p q, v.1 (parts_of p') p' q') ((g j).0, ((g j).1, tt))
-
   parts-fit : (a b : Tree) → PairFits a b → head_of a ≡ head_of b → AllFit (pairs_of (parts_of a) (parts_of b))
   parts-fit (var i) (var j) x e = tt
   parts-fit (name i) (name j) x e = tt
@@ -149,7 +118,7 @@ module _ (zs : List Sort) (s : List Tree) (w : BodiesFit zs s) where
   parts-fit (binary f p q) (binary f' p' q') (vs, c, g, h, k) e =
       let i : f ≡ f' = grind arith in let (x, y) = binary-parts vs c f p q p' q' h (rw i k) g in (x, (y, tt))
   parts-fit (apply f p q) (apply f' p' q') (vs, c, g, h, k) e =
-      apply-fit f f' (head_of p) (head_of p') p p' q q' e (λ i. count-parts p ∙ ap count i ∙ sym (count-parts p'))
+      all-applied PairFits f f' (head_of p) (head_of p') p p' q q' e (λ i. count-parts p ∙ ap count i ∙ sym (count-parts p'))
       (λ i. apply-parts vs c f p q p' q' h (rw i k) g) (λ i x. parts-fit p p' x i)
   parts-fit a b x e = let k : form_of a ≡ form_of b = same-form a b e in absurd (grind arith)
 
@@ -222,7 +191,7 @@ module _ (zs : List Sort) (s : List Tree) (w : BodiesFit zs s) where
 
   move_split-fits : (o : Split) (a b : Tree) (ps : List Pair) → SplitFits o → AllFit ps → NextFits (move_split o a b ps)
   unfolding NextFits SplitFits
-  move_split-fits (into qs) a b ps h k = pairs-fit (qs ++ ps) (all-fit qs ps h k)
+  move_split-fits (into qs) a b ps h k = pairs-fit (qs ++ ps) (all-append PairFits qs ps h k)
   move_split-fits differ a b ps h k = tt
   move_split-fits unsorted a b ps h k = absurd h
 

@@ -3,10 +3,11 @@ use Rattle.std.proofs.Common.{◌≡◌, ℕ, zero, suc, [], ◌∷◌, Some, re
 use native.Mathlib.Decide.{ℕ_discrete}
 use Rattle.cdle_model.specs.Trees.{var}
 use Rattle.cdle_model.specs.Forms.{star, kpit, pi, allt, eq, fn, app, fst, phi}
+use Rattle.cdle_model.specs.HeadForms.{deep}
 use Rattle.cdle_model.specs.Machine.{spent, run}
 use Rattle.cdle_model.specs.Comparison.{taken, move}
-use Rattle.cdle_model.specs.Check.{not_a_function, not_an_intersection, not_an_equation, wrong_kind, mismatch, erased_use, parts_differ, not_booleans, sides_differ, accepts, refuses, spends, duplicate, check_items}
-use Rattle.cdle_model.specs.Examples.{identity_pure, omega_pure, identity, repeated_file, erased_variable_used, erased_variable_in_kept_part, pair_by_eta, argument_never_reached, endless, rho_plain, rho_from_right, rho_from_left, of_variable, type_of_wrong_kind, other_type, pair_of_other_parts, delta_of_one_side, doubled_type}
+use Rattle.cdle_model.specs.Check.{not_a_function, not_an_intersection, not_an_equation, wrong_kind, mismatch, erased_use, parts_differ, not_booleans, sides_differ, accepts, refuses, spends, ends, duplicate, check_items}
+use Rattle.cdle_model.specs.Examples.{identity_pure, omega_pure, identity, repeated_file, erased_variable_used, erased_variable_in_kept_part, pair_by_eta, argument_never_reached, endless, growing, rho_plain, rho_from_right, rho_from_left, of_variable, type_of_wrong_kind, other_type, pair_of_other_parts, delta_of_one_side, doubled_type}
 
 pub accepted_identity : check_items 5 identity ≡ accepts
 unfolding ℕ_discrete
@@ -139,6 +140,14 @@ spent_pair_of_other_parts = refl
 pub spent_delta_of_one_side : check_items 2 delta_of_one_side ≡ spends 0 (2 ∷ 2 ∷ 2 ∷ 2 ∷ [])
 unfolding ℕ_discrete
 spent_delta_of_one_side = refl
+
+pub spent_growing : check_items 11 (growing 1000) ≡ spends 0 (2 ∷ [])
+unfolding ℕ_discrete
+spent_growing = refl
+
+pub deep_growing : check_items 12 (growing 1000) ≡ ends 0 deep
+unfolding ℕ_discrete
+deep_growing = refl
 
 -- a contraction gives the same tree again
 loops : (n : ℕ) → run (move []) n (taken identity_pure omega_pure ((identity_pure, identity_pure) ∷ [])) ≡ spent

@@ -7,10 +7,23 @@ use Rattle.cdle_model.specs.Comparison.{Head, variable, constant, argument, func
 use Rattle.cdle_model.proofs.Rewriting.{linked-join, linked-turn}
 use Rattle.cdle_model.proofs.Equality.{joined_fun, joined_apply, joined_bind, joined_unary, joined_binary}
 
--- each pair is joined
+-- each pair is related
+abbrev pub AllPairs : (Tree → Tree → Type 0) → List Pair → Type 0
+AllPairs R [] = Unit {0}
+AllPairs R (p ∷ ps) = R p.0 p.1 × AllPairs R ps
+
+pub all-append : (R : Tree → Tree → Type 0) (ps qs : List Pair) → AllPairs R ps → AllPairs R qs → AllPairs R (ps ++ qs)
+all-append R [] qs h k = k
+all-append R (p ∷ ps) qs h k = (h.0, all-append R ps qs h.1 k)
+
+all-snoc : (R : Tree → Tree → Type 0) (ps qs : List Tree) (p q : Tree) → length ps ≡ length qs → AllPairs R (pairs_of ps qs) → R p q → AllPairs R (pairs_of (ps ++ (p ∷ [])) (qs ++ (q ∷ [])))
+all-snoc R [] [] p q e h k = (k, tt)
+all-snoc R [] (_ ∷ qs) p q e h k = absurd (grind arith)
+all-snoc R (_ ∷ ps) [] p q e h k = absurd (grind arith)
+all-snoc R (a ∷ ps) (b ∷ qs) p q e h k = (h.0, all-snoc R ps qs p q (grind arith) h.1 k)
+
 abbrev pub AllJoined : List Tree → List Pair → Type 0
-AllJoined s [] = Unit {0}
-AllJoined s (p ∷ ps) = Joined s p.0 p.1 × AllJoined s ps
+AllJoined s = AllPairs (Joined s)
 
 -- which constructor of trees has this head: 4 is a binder's form, 5 a form of two parts
 abbrev form : Head → ℕ
@@ -91,6 +104,26 @@ neutral-or (variable i) = inl ((λ c. refl), (λ ps p q. refl))
 neutral-or (constant n) = inl ((λ c. refl), (λ ps p q. refl))
 neutral-or (argument d h) = inl ((λ c. refl), (λ ps p q. refl))
 neutral-or h = inr ((λ c. refl), (λ ps p q. refl))
+
+-- the parts of two applications with one head
+pub all-applied : (R : Tree → Tree → Type 0) (c d : Function) (h k : Head) (p p' q q' : Tree) → applied_head c h ≡ applied_head d k
+    → (h ≡ k → length (parts_of p) ≡ length (parts_of p')) → (c ≡ d → R p p' × R q q')
+    → (h ≡ k → R p p' → AllPairs R (pairs_of (parts_of p) (parts_of p')))
+    → AllPairs R (pairs_of (parts_by h (parts_of p) p q) (parts_by k (parts_of p') p' q'))
+all-applied R c d h k p p' q q' e n g r = by_heads (neutral-or h) (neutral-or k)
+  where
+    by_heads : IsNeutral h ⊎ IsOther h → IsNeutral k ⊎ IsOther k → AllPairs R (pairs_of (parts_by h (parts_of p) p q) (parts_by k (parts_of p') p' q'))
+    by_heads (inl u) (inl v) =
+        let i : argument c h ≡ argument d k = sym (u.0 c) ∙ e ∙ v.0 d in
+        let j : c ≡ d = grind arith in
+        let l : h ≡ k = grind arith in
+        rw (u.1 (parts_of p) p q, v.1 (parts_of p') p' q') (all-snoc R (parts_of p) (parts_of p') q q' (n l) (r l (g j).0) (g j).1)
+    by_heads (inl u) (inr v) = let i : argument c h ≡ stuck d = sym (u.0 c) ∙ e ∙ v.0 d in absurd (grind arith)
+    by_heads (inr u) (inl v) = let i : stuck c ≡ argument d k = sym (u.0 c) ∙ e ∙ v.0 d in absurd (grind arith)
+    by_heads (inr u) (inr v) =
+        let i : stuck c ≡ stuck d = sym (u.0 c) ∙ e ∙ v.0 d in
+        let j : c ≡ d = grind arith in
+        rw (u.1 (parts_of p) p q, v.1 (parts_of p') p' q') ((g j).0, ((g j).1, tt))
 
 -- two applications with one head: of a variable, or stuck
 app-joined : (s : List Tree) (c d : Function) (h k : Head) (p p' q q' : Tree) → applied_head c h ≡ applied_head d k

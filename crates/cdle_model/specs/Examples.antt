@@ -96,3 +96,15 @@ doubled (suc k) x = on (name 0) (doubled k x)
 abbrev pub doubled_type : ℕ → List Written
 doubled_type k = type_item (68 ∷ []) (kpit star star) (xtlam star (pi (var 0) (var 1)))
     ∷ named (allt star (pi (doubled k (var 0)) (doubled k (var 1)))) (xlam star (lam (doubled k (var 0)) (var 0))) ∷ []
+
+-- Ik x is (ap (fn y y) .. (ap (fn y y) x) ..), k times. W is (fn x (fn a (ap (ap x x) Ik a))):
+-- (def a (eq (ap (ap W W) (fn z z)) (fn x x)) (beta (fn x x) (fn x x)))
+abbrev under_identities : ℕ → Tree → Tree
+under_identities zero p = p
+under_identities (suc k) p = ap identity_pure (under_identities k p)
+
+abbrev growing_pure : ℕ → Tree
+growing_pure k = fn (fn (ap (ap (var 1) (var 1)) (under_identities k (var 0))))
+
+abbrev pub growing : ℕ → List Written
+growing k = named (eq (ap (ap (growing_pure k) (growing_pure k)) identity_pure) identity_pure) (beta identity_pure identity_pure) ∷ []

@@ -4,10 +4,9 @@ use Rattle.cdle_model.specs.Trees.{Function, of_pure, of_term, of_type, Tree, na
 use Rattle.cdle_model.specs.Depth.{depth}
 use Rattle.cdle_model.specs.Machine.{Move, stop, go, Outcome, run}
 
--- why the work ends for good without a result: a tree that was built is too deep;
--- or a pure function is applied as a type is, or stands against a type's form, which no tree of a class does.
--- (Trees of a class never come to the second. It is an answer of its own since none of the others would be true of it:
--- `λx. p x` of a type `p` is of no class, and yet it steps to `p`.)
+-- why the work ends for good without a result: a tree that was built is too deep; or a pure function is applied as a type is, or stands
+-- against a type's form. No tree of a class comes to the second, and no other answer would be true there: `λx. p x` of a type `p` is of no
+-- class, and yet it steps to `p`
 pub data Halt : Type 0 where
   deep ill_classed : Halt
 

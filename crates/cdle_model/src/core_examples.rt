@@ -1,8 +1,9 @@
 //! Worked lists of items, each with its answer by the plain check. Each is a clause of a function with an empty body.
 ghost use Rattle.std.specs.Prelude.{◌≡◌, ℕ, suc, Some, List, [], ◌∷◌};
-ghost use Rattle.cdle_model.specs.Check.{accepts, check_items, duplicate, erased_use, mismatch, not_a_function, not_an_equation, not_an_intersection, not_booleans, parts_differ, refuses, sides_differ, spends, wrong_kind};
-ghost use Rattle.cdle_model.specs.Examples.{argument_never_reached, delta_of_one_side, doubled_type, endless, erased_variable_in_kept_part, erased_variable_used, identity, of_variable, other_type, pair_by_eta, pair_of_other_parts, repeated_file, rho_from_left, rho_from_right, rho_plain, type_of_wrong_kind};
+ghost use Rattle.cdle_model.specs.Check.{accepts, check_items, duplicate, ends, erased_use, mismatch, not_a_function, not_an_equation, not_an_intersection, not_booleans, parts_differ, refuses, sides_differ, spends, wrong_kind};
+ghost use Rattle.cdle_model.specs.Examples.{argument_never_reached, delta_of_one_side, doubled_type, endless, erased_variable_in_kept_part, erased_variable_used, growing, identity, of_variable, other_type, pair_by_eta, pair_of_other_parts, repeated_file, rho_from_left, rho_from_right, rho_plain, type_of_wrong_kind};
 ghost use Rattle.cdle_model.specs.Forms.{allt, app, eq, fn, fst, kpit, phi, pi, star};
+ghost use Rattle.cdle_model.specs.HeadForms.{deep};
 ghost use Rattle.cdle_model.specs.Trees.{Tree, var};
 
 /// Lists of items that are accepted, each with the least units for which it is.
@@ -33,6 +34,11 @@ pub fn examples_are_refused()
     ensures of_delta_of_one_side { check_items 3 delta_of_one_side ≡ refuses 0 (2 ∷ 2 ∷ 2 ∷ 2 ∷ []) (not_booleans (var 1) (var 1)) }
 {}
 
+/// A list whose trees grow: its comparison is deep at the tenth contraction, after two pairs.
+pub fn example_is_deep()
+    ensures { check_items 12 (growing 1000) ≡ ends 0 deep }
+{}
+
 /// The same lists with one unit less, and one whose comparison never ends.
 pub fn examples_are_spent()
     ensures of_identity { check_items 4 identity ≡ spends 0 (2 ∷ []) }
@@ -48,5 +54,6 @@ pub fn examples_are_spent()
     ensures of_other_type { check_items 6 other_type ≡ spends 0 (2 ∷ []) }
     ensures of_pair_of_other_parts { check_items 4 pair_of_other_parts ≡ spends 0 (2 ∷ 2 ∷ 2 ∷ []) }
     ensures of_delta_of_one_side { check_items 2 delta_of_one_side ≡ spends 0 (2 ∷ 2 ∷ 2 ∷ 2 ∷ []) }
+    ensures of_growing { check_items 11 (growing 1000) ≡ spends 0 (2 ∷ []) }
     ensures of_endless { (n : ℕ) → check_items (suc n) endless ≡ spends 0 (2 ∷ []) }
 {}

@@ -12,7 +12,9 @@ mod grammar;
 mod laws;
 mod text;
 
-pub use core_examples::{examples_are_accepted, examples_are_refused, examples_are_spent};
+pub use core_examples::{
+    example_is_deep, examples_are_accepted, examples_are_refused, examples_are_spent,
+};
 pub use core_laws::{
     accepted_list_is_derived, apart_is_not_joined, check_keeps_classes, erasure_commutes,
     erasure_keeps_classes, items_are_a_signature, joined_is_a_congruence,
