@@ -1,8 +1,9 @@
 //! The check of files, item by item.
-ghost use Rattle.std.specs.Prelude.{◌≡◌, ◌<◌, ◌≤◌, IfErr, IfOk, length, map};
+ghost use Rattle.std.specs.Prelude.{◌≡◌, ◌<◌, ◌≤◌, ◌++◌, IfErr, IfOk, length, map};
 ghost use Rattle.cdle_model.specs.Classes.{AreItems, terms, types, within, Fits};
 ghost use Rattle.cdle_model.specs.Derivation.{AreDerived};
-ghost use Rattle.cdle_model.specs.FirstCheck.{AreFirstItems, FirstVerdict, IsFirstItem};
+ghost use Rattle.cdle_model.specs.FirstCheck.{AreFirstItems, FirstVerdict, IsFirstItem, IsFirstType};
+ghost use Rattle.cdle_model.specs.Depth.{depth};
 ghost use Rattle.core_tree.specs.Items.{written};
 ghost use Rattle.core_check.specs.Answer.{IsAnswer, IsFaultOf};
 ghost use Rattle.core_check.specs.Context.{AreTypes, term_sorts};
@@ -30,10 +31,15 @@ fn check_item(
     requires types { AreTypes types.now }
     ensures ok { IfOk result (λ ty. (rest : FirstVerdict) → item_verdict types.now number (written item.now) rest ≡ rest) }
     ensures is { IfOk result (λ ty. ty ≡ type_of_item (written item.now)) }
+    ensures form { IfOk result IsFirstType }
+    ensures shallow { IfOk result (λ ty. depth ty ≤ 4096) }
     ensures err { IfErr result (λ e. (rest : FirstVerdict) → IsFaultOf (item_verdict types.now number (written item.now) rest) e) }
 {
     match item {
         CoreItem::Def { ty, body, .. } => {
+            // the form of a written tree tells the proof that the tree is no deeper than 4,096
+            let _ = body.form();
+            let _ = ty.form();
             let found = infer(alloc, types, &Context::Empty, body)?;
             let wanted = ty.erase(alloc)?;
             if is_same(&found, &wanted) {
@@ -54,15 +60,23 @@ fn check_item(
     }
 }
 
+/// Appends the items of a file.
+fn append_items<'a>(file: &'a CoreFile, items: &mut Vec<&'a CoreItem>) -> Result<(), AllocError>
+    ensures { IfOk result (λ _. map (λ item. written item.now) items.new.items ≡ map (λ item. written item.now) items.old.items ++ file.now.items) }
+{
+    for item in file.items.as_slice() {
+        items.push(item)?;
+    }
+    Ok(())
+}
+
 /// The items of the files in their order.
 fn all_items<'a>(alloc: Global, files: &'a Vec<CoreFile>) -> Result<Vec<&'a CoreItem>, AllocError>
     ensures { IfOk result (λ items. map (λ item. written item.now) items.items ≡ items_of files.now.items) }
 {
     let mut items = Vec::new(alloc);
     for file in files {
-        for item in file.items.as_slice() {
-            items.push(item)?;
-        }
+        append_items(file, &mut items)?;
     }
     Ok(items)
 }

@@ -1,10 +1,10 @@
-use Rattle.std.proofs.Common.{◌≡◌, ◌≤◌, Option, Some, IfOk, get_or, length, arith, subst, sym, rules}
+use Rattle.std.proofs.Common.{◌≡◌, ℕ, ◌+◌, ◌≤◌, Option, Some, IfOk, get_or, length, arith, ap, subst, sym, ◌∙◌}
 use Rattle.cdle_model.specs.Classes.{terms, within, Fits}
 use Rattle.cdle_model.specs.Depth.{depth}
 use Rattle.cdle_model.specs.Derivation.{Entry}
 use Rattle.cdle_model.specs.FirstCheck.{IsFirstTerm, IsFirstType, first_type, type_in}
-use Rattle.cdle_model.specs.Forms.{lam, pi}
-use Rattle.cdle_model.specs.Trees.{Tree, name, var}
+use Rattle.cdle_model.specs.Forms.{pi}
+use Rattle.cdle_model.specs.Trees.{Tree, IsBelow}
 use Rattle.core_tree.specs.Forms.{term_tree}
 use Rattle.core_tree.specs.declared.term.TermForm.{TermForm}
 use Rattle.core_check.specs.Context.{entries, sorts, term_sorts, typed}
@@ -23,12 +23,18 @@ erase-requires t c =
     let is = subst (λ (f : TermForm). term_tree f ≡ c.args.term.now) c.in-Lam.is c.form.ensures.is in
     first_has_erasure c.in-Lam.ty (subst IsFirstTerm (sym is) c.requires.form).0
 
-pub infer-requires-clause-sound : goal.infer-requires-clause-sound
-infer-requires-clause-sound t c =
+pub infer-requires : goal.infer-requires
+infer-requires t c =
     let is = subst (λ (f : TermForm). term_tree f ≡ c.args.term.now) c.in-Lam.is c.form.ensures.is in
-    let form = (subst IsFirstTerm (sym is) c.requires.form).0 in
-    let fits = (subst (Fits (within (sorts c.args.context.now) (term_sorts c.args.types.now)) terms) (sym is) c.requires.fits).0 in
-    ?
+    let form = subst IsFirstTerm (sym is) c.requires.form in
+    let fits = subst (Fits (within (sorts c.args.context.now) (term_sorts c.args.types.now)) terms) (sym is) c.requires.fits in
+    let bound = subst (λ (x : Tree). length (sorts c.args.context.now) + depth x ≤ 4096) (sym is) c.requires.bound in
+    let same = c.in_ok-domain-in-Lam.ensures.is ∙ first_erased c.in-Lam.ty form.0 in
+    let below = first_below (sorts c.args.context.now) (term_sorts c.args.types.now) c.in-Lam.ty form.0 fits.0 in
+    let smaller = ap depth is in
+    let shallow = c.in_ok-domain-in-Lam.ensures.no_deeper in
+    (omega arith, (form.1, (fits.1, ((subst IsFirstType (sym same) form.0, subst (IsBelow (length (sorts c.args.context.now))) (sym same) below, omega arith, c.requires.sound),
+        (omega arith, c.requires.types)))))
 
 pub returns-in-Var-clause-is : goal.returns-in-Var-clause-is
 returns-in-Var-clause-is t c =
@@ -43,11 +49,18 @@ returns-in_ok-share-in-Name-clause-is t c =
     subst (λ (x : Tree). first_type (typed c.args.types.now) (entries c.args.context.now) x ≡ Some c.in_ok-share-in-Name.field-0) is
     (name_type c.args.types.now c.in-Name.item c.index-types-item.result c.in_ok-share-in-Name.field-0 below c.index-types-item.is c.in_ok-share-in-Name.ensures)
 
+known_item : (t : ℕ) (c : goal.In_ok-share-in-Name t) → IsFirstType c.in_ok-share-in-Name.field-0 × (depth c.in_ok-share-in-Name.field-0 ≤ 4096)
+known_item t c =
+    let is = subst (λ (f : TermForm). term_tree f ≡ c.args.term.now) c.in-Name.is c.form.ensures.is in
+    let below = name_below c.args.types.now c.in-Name.item (subst (Fits (within (sorts c.args.context.now) (term_sorts c.args.types.now)) terms) (sym is) c.requires.fits) in
+    let same : c.in_ok-share-in-Name.field-0 ≡ get_or c.args.types.now c.in-Name.item c.index-types-item.result = c.in_ok-share-in-Name.ensures ∙ c.index-types-item.is in
+    subst (λ (a : Tree). IsFirstType a × (depth a ≤ 4096)) (sym same) (c.requires.types c.in-Name.item c.index-types-item.result below)
+
 pub returns-in_ok-share-in-Name-clause-form : goal.returns-in_ok-share-in-Name-clause-form
-returns-in_ok-share-in-Name-clause-form t c = ?
+returns-in_ok-share-in-Name-clause-form t c = (known_item t c).0
 
 pub returns-in_ok-share-in-Name-clause-shallow : goal.returns-in_ok-share-in-Name-clause-shallow
-returns-in_ok-share-in-Name-clause-shallow t c = ?
+returns-in_ok-share-in-Name-clause-shallow t c = let shallow = (known_item t c).1 in omega arith
 
 pub returns-in_ok-pi-in-Lam-clause-form : goal.returns-in_ok-pi-in-Lam-clause-form
 returns-in_ok-pi-in-Lam-clause-form t c =
