@@ -1,10 +1,10 @@
 -- The items so far.
-use Rattle.std.proofs.Common.{◌≡◌, ℕ, List, [], ◌∷◌, ◌++◌, length, Result, Ok, Err, refl, sym, ap, ◌∙◌, Option, Some, None, true, false}
+use Rattle.std.proofs.Common.{◌≡◌, ℕ, List, [], ◌∷◌, ◌++◌, length, Result, Ok, Err, refl, sym, ap, subst, ◌∙◌, Option, Some, None, true, false}
 use Rattle.std.specs.Prelude.{MatchOption, is_some}
-use Rattle.std.specs.Str.{IsUtf8}
+use Rattle.std.specs.Str.{IsCharBoundary, IsUtf8}
 use Rattle.std.proofs.lemmas.List.{map_push, append_assoc}
 use Rattle.cdle_model.specs.Forms.{Written, name_of}
-use Rattle.cdle_model.specs.CoreTokens.{Token}
+use Rattle.cdle_model.specs.CoreTokens.{Token, Word}
 use Rattle.cdle_model.specs.CoreFaults.{BadText, Unbound, WrongClass, TooDeep}
 use Rattle.cdle_model.specs.Classes.{item_sort}
 use Rattle.cdle_model.specs.CoreNames.{Name, with_item}
@@ -16,7 +16,7 @@ use Rattle.core_tree.specs.Items.{written, all_written}
 use Rattle.core_tree.specs.declared.items.CoreItem.{CoreItem}
 use Rattle.core_text.specs.File.{IsFaultOf}
 use Rattle.core_text.specs.Next.{IsNext}
-use Rattle.core_text.specs.View.{rest, Fails}
+use Rattle.core_text.specs.View.{rest, Fails, IsAt, IsNamePlace, IsPlaced}
 use Rattle.core_text.specs.declared.error.CoreTextFault.{CoreTextFault}
 use Rattle.core_text.specs.declared.error.CoreTextFault.TheVariants as faults
 use Rattle.core_text.specs.declared.token as token
@@ -67,3 +67,12 @@ some_next bytes from (Some t) e h g = let p = h.first in cc
 pub none_next : (bytes : List ℕ) (from : ℕ) (r : Option token.Token.Token) → is_some r ≡ false → MatchOption r (rest bytes from ≡ []) (IsNext bytes from) → rest bytes from ≡ []
 none_next bytes from None e h = h
 none_next bytes from (Some t) e h = absurd cc
+
+-- a name that is wrong stands at its token
+pub placed_at : (bytes : List ℕ) (at : ℕ) (w : List ℕ) (more : List Token) (e : CoreTextFault) → IsAt at e → IsCharBoundary bytes at → rest bytes at ≡ (at, Word w) ∷ more → IsPlaced bytes e
+placed_at bytes at w more (faults.Unbound here) h b t = subst (IsNamePlace bytes) (sym h) (b, w, (more, t))
+placed_at bytes at w more (faults.WrongClass here) h b t = subst (IsNamePlace bytes) (sym h) (b, w, (more, t))
+placed_at bytes at w more (faults.NotUtf8 here) h b t = tt
+placed_at bytes at w more (faults.BadText here what) h b t = tt
+placed_at bytes at w more (faults.TooDeep here) h b t = tt
+placed_at bytes at w more faults.NoMemory h b t = tt

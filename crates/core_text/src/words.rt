@@ -216,10 +216,12 @@ pub fn word_at(bytes: &[u8], at: u32) -> &str
     ensures { IsWordAt bytes.now at result.now }
 {
     match next(bytes, at as usize) {
-        Some(Token {
-            lexeme: Lexeme::Word(word),
-            ..
-        }) => match std::str::from_utf8(word) {
+        Some(
+            Token {
+                lexeme: Lexeme::Word(word),
+                ..
+            },
+        ) => match std::str::from_utf8(word) {
             Ok(word) => word,
             Err(_) => unreachable!(),
         },

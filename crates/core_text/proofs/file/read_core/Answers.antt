@@ -1,7 +1,6 @@
 use Rattle.std.proofs.Common.{◌≡◌, ◌∙◌, ◌++◌, ◌∷◌, ℕ, List, length, arith, ap₂}
 use Rattle.cdle_model.specs.declared.grammar.Sort.{Sort}
 use Rattle.std.proofs.lemmas.List.{length-append}
-use Rattle.core_tree.proofs.Written.{length_written}
 use Rattle.std.proofs.lemmas.Result.{err_from_is_err_and}
 use Rattle.core_tree.specs.Items.{all_written}
 use Rattle.core_text.specs.Scope.{known_names}
@@ -32,9 +31,9 @@ items-preserved c = record {
 
 pub returns-clause-ok : goal.returns-clause-ok
 returns-clause-ok c =
-    rw c.new.ensures
+    rw c.new.ensures.is
     (says c.args.bytes.now (known_names c.args.known.now) (all_written c.items.items.items) (known_names c.items.own ++ known_names c.args.known.now) (rest c.args.bytes.now c.items.at) c.items.invariant.upto
     (none_next c.args.bytes.now c.items.at c.next.result (cc) c.next.ensures))
 
 pub returns-clause-few : goal.returns-clause-few
-returns-clause-few c = rw (c.new.ensures, length_written c.items.items.items) (omega (arith, c.items.invariant.few, c.items.invariant.boundary.0))
+returns-clause-few c = omega (arith, c.new.ensures.len, c.items.invariant.few, c.items.invariant.boundary.0)
