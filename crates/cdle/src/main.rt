@@ -12,13 +12,11 @@ mod run;
 mod words;
 mod work;
 
+use cdle_folder::{DirFolder, StdSink};
 pub use outcome::{Badness, Exit, Outcome, Reason, Spot};
 pub use run::cdle_run;
-
-use cdle_folder::{DirFolder, StdSink};
-use std::env;
-use std::io;
 use std::process::ExitCode;
+use std::{env, io};
 
 #[cfg(test)]
 mod tests;

@@ -27,8 +27,16 @@ pub fn cdle_run<F: Folder, S: Sink>(
 
     // The end of the call, with its cause: what was seen of the words and of the folder, and what the file's bytes say.
     ensures run { IsRun
-        (record { words = map string_bytes words.now.items; files = F.files folder.old; given = F.given folder.old; given_after = F.given folder.new;
-            read_faults = F.read_faults folder.old; read_faults_after = F.read_faults folder.new; absences = F.absences folder.old; absences_after = F.absences folder.new })
+        (record {
+          words = map string_bytes words.now.items;
+          files = F.files folder.old;
+          given = F.given folder.old;
+          given_after = F.given folder.new;
+          read_faults = F.read_faults folder.old;
+          read_faults_after = F.read_faults folder.new;
+          absences = F.absences folder.old;
+          absences_after = F.absences folder.new;
+        })
         (record { written = S.written out.old; written_after = S.written out.new; faults = S.faults out.old; faults_after = S.faults out.new }) result.outcome }
 
     // No file is written.

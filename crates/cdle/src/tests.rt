@@ -204,6 +204,14 @@ fn outcome_of_the_identity(rt: HostRuntime) -> Result<(), Fail> {
     let mut out = MemorySink::new(alloc, Vec::new(alloc), 64)?;
     let Exit { status, outcome } = cdle_run(alloc, &words, &mut folder, &mut out);
     assert_eq!(rt; status, 0);
-    assert!(rt; matches!(&outcome, Outcome::Ok { modules: 0, items: 1 }));
+    assert!(rt;
+        matches!(
+            &outcome,
+            Outcome::Ok {
+                modules: 0,
+                items: 1
+            }
+        )
+    );
     Ok(())
 }

@@ -33,8 +33,16 @@ pub(crate) struct Work {
 /// Does what the words ask for.
 pub(crate) fn work<F: Folder>(alloc: Global, words: &Vec<String>, folder: &mut F) -> Work
     ensures files { F.files folder.new ≡ F.files folder.old }
-    ensures work { IsWork (record { words = map string_bytes words.now.items; files = F.files folder.old; given = F.given folder.old; given_after = F.given folder.new;
-        read_faults = F.read_faults folder.old; read_faults_after = F.read_faults folder.new; absences = F.absences folder.old; absences_after = F.absences folder.new }) result.outcome result.text.items }
+    ensures work { IsWork (record {
+      words = map string_bytes words.now.items;
+      files = F.files folder.old;
+      given = F.given folder.old;
+      given_after = F.given folder.new;
+      read_faults = F.read_faults folder.old;
+      read_faults_after = F.read_faults folder.new;
+      absences = F.absences folder.old;
+      absences_after = F.absences folder.new;
+    }) result.outcome result.text.items }
 {
     match asked_file(words) {
         None => Work {
