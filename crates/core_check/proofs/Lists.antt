@@ -1,5 +1,5 @@
 -- The items of a file and of files, one after the other.
-use Rattle.std.proofs.Common.{◌≡◌, ℕ, ◌+◌, ◌<◌, List, [], ◌∷◌, ◌++◌, length, get_or, take, drop, map, refl, sym, ap, ◌∙◌, arith, append_assoc, drop-cons}
+use Rattle.std.proofs.Common.{◌≡◌, ℕ, suc, ◌+◌, ◌<◌, List, [], ◌∷◌, ◌++◌, length, get_or, take, drop, map, refl, sym, ap, ◌∙◌, arith, append_assoc, drop-cons}
 use Rattle.std.proofs.lemmas.List.{take_more, map-append, get_or-map, length-map, append-nil}
 use Rattle.cdle_model.specs.Forms.{Written}
 use Rattle.core_tree.specs.declared.items.CoreItem.{CoreItem}
@@ -45,4 +45,5 @@ from_this f xs ws i x m lt e =
     let len = length-map xs f in
     let below : i < length (map f xs) = omega arith in
     let next = drop-cons (map f xs) i (f x) below in
-    rw (← m) (next ∙ ap (λ (w : Written). w ∷ drop (i + 1) (map f xs)) (same ∙ ap f (sym e)))
+    let one : suc i ≡ i + 1 = omega arith in
+    rw (← m) (next ∙ ap (λ (w : Written). w ∷ drop (suc i) (map f xs)) (same ∙ ap f (sym e)) ∙ ap (λ (n : ℕ). f x ∷ drop n (map f xs)) one)

@@ -11,7 +11,7 @@ use Rattle.cdle_model.specs.Classes.{types, terms, within, Fits, item_sorts, IsO
 use Rattle.cdle_model.specs.Depth.{depth}
 use Rattle.cdle_model.specs.Erasure.{erased}
 use Rattle.cdle_model.specs.Derivation.{Entry, term_of, type_of, item, signature}
-use Rattle.cdle_model.specs.FirstCheck.{IsFirstType, IsFirstItem, AreFirstItems, type_in, first_type, first_of, FirstVerdict, accepts, by_types, by_item, by_name, first_check, first_check_after}
+use Rattle.cdle_model.specs.FirstCheck.{IsFirstType, IsFirstItem, AreFirstItems, type_in, first_type, first_of, FirstVerdict, accepts, duplicate, by_types, by_item, by_name, first_check, first_check_after}
 use Rattle.core_check.specs.Context.{AreTypes, term_sorts, typed}
 use Rattle.core_check.specs.Items.{type_of_item, types_of, item_verdict, IsItemOver}
 
@@ -116,6 +116,21 @@ next ws es rest tys names w more s e =
       subst (λ (l : List Tree). IsItemOver l w) (sym s.types) (over_same es w s.done forms.0 over.0),
       rw (s.types, count, s.named (name_of w), ← item) verdict,
     )
+
+-- an earlier item has the name of the next one
+pub taken : (ws es rest : List Written) (tys : List Tree) (names : List ℕ → Option ℕ) (w : Written) (more : List Written) (n k : ℕ) (q : List ℕ) → Standing ws es rest tys names → rest ≡ w ∷ more
+    → n ≡ length tys → q ≡ name_of w → names q ≡ Some k → first_check ws ≡ duplicate n k
+taken ws es rest tys names w more n k q s e count named found =
+    let r = item_verdict tys (length tys) w (first_check_after (es ++ (w ∷ [])) more) in
+    (next ws es rest tys names w more s e).2 ∙ ap (λ (o : Option ℕ). by_name (length tys) o r) (ap names (sym named) ∙ found) ∙ ap (λ (m : ℕ). duplicate m k) (sym count)
+
+-- no earlier item has it
+pub judged : (ws es rest : List Written) (tys : List Tree) (names : List ℕ → Option ℕ) (w : Written) (more : List Written) (n : ℕ) (q : List ℕ) → Standing ws es rest tys names → rest ≡ w ∷ more
+    → n ≡ length tys → q ≡ name_of w → names q ≡ None → first_check ws ≡ item_verdict tys n w (first_check_after (es ++ (w ∷ [])) more)
+judged ws es rest tys names w more n q s e count named fresh =
+    let r = first_check_after (es ++ (w ∷ [])) more in
+    (next ws es rest tys names w more s e).2 ∙ ap (λ (o : Option ℕ). by_name (length tys) o (item_verdict tys (length tys) w r)) (ap names (sym named) ∙ fresh)
+    ∙ ap (λ (m : ℕ). item_verdict tys m w r) (sym count)
 
 -- the next item is accepted
 pub advanced : (ws es rest : List Written) (tys : List Tree) (names : List ℕ → Option ℕ) (w : Written) (more es_new : List Written) (ty : Tree) (tys_new : List Tree) (names_new : List ℕ → Option ℕ)
