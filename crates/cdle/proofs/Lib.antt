@@ -1,3 +1,5 @@
 pub mod Outcomes
 pub mod Sights
 pub mod Exact
+pub mod Verdicts
+pub mod Runs

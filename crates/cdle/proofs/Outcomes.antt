@@ -16,7 +16,7 @@ use Rattle.cdle_model.proofs.CoreAgain.{one_file}
 use Rattle.cdle_model.proofs.CoreRuns.{file_runs}
 use Rattle.core_tree.specs.declared.faults.Kept.TheVariants.{Whole}
 use Rattle.core_tree.specs.declared.faults.Why.TheVariants.{Mismatch}
-use Rattle.cdle.specs.Call.{Sight, no_command, absent, too_long, unread, text}
+use Rattle.cdle.specs.Call.{Sight, no_command, absent, too_long, unread, contents}
 use Rattle.cdle.specs.Answers.{IsAccepted, IsItemName, IsMalformed, IsOutcome, IsRefusal}
 use Rattle.cdle.specs.declared.outcome.Badness.{Badness}
 use Rattle.cdle.specs.declared.outcome.Badness.TheVariants as bad
@@ -75,7 +75,7 @@ malformed_shape file bytes at (bad.Wanted word) h = inr (inl (BadText at h.0, h.
 malformed_shape file bytes at (bad.Unbound name) h = inr (inl (Unbound at, h.1, ap (λ (w : Bytes). outcome.Malformed file at (bad.Unbound w)) (word_name bytes at name h.0)))
 malformed_shape file bytes at (bad.WrongClass name) h = inr (inl (WrongClass at, h.1, ap (λ (w : Bytes). outcome.Malformed file at (bad.WrongClass w)) (word_name bytes at name h.0)))
 
-text_shape : (file bytes : Bytes) (o : Outcome) → IsOutcome (text file bytes) o → IsKnown o → Shape file bytes o
+text_shape : (file bytes : Bytes) (o : Outcome) → IsOutcome (contents file bytes) o → IsKnown o → Shape file bytes o
 text_shape file bytes outcome.NoMemory h n = absurd (n refl)
 text_shape file bytes (outcome.Ok modules items) h n =
     let a = h.1 in inl (a.all, a.said, rw (h.0, a.accepted, a.counted) refl)
@@ -136,4 +136,4 @@ one_outcome no_command o p h g n m = no_command_shape o h n ∙ sym (no_command_
 one_outcome (absent file) o p h g n m = absent_shape file o h n ∙ sym (absent_shape file p g m)
 one_outcome (too_long file) o p h g n m = too_long_shape file o h n ∙ sym (too_long_shape file p g m)
 one_outcome (unread file) o p h g n m = unread_shape file o h n ∙ sym (unread_shape file p g m)
-one_outcome (text file bytes) o p h g n m = same_shape file bytes o p (text_shape file bytes o h n) (text_shape file bytes p g m)
+one_outcome (contents file bytes) o p h g n m = same_shape file bytes o p (text_shape file bytes o h n) (text_shape file bytes p g m)

@@ -14,7 +14,7 @@ use Rattle.cdle_model.specs.declared.grammar.CoreWanted.{CoreWanted}
 use Rattle.cdle_model.specs.declared.grammar.Count.TheVariants.{Bytes as OfBytes, Nesting}
 use Rattle.core_tree.specs.declared.faults.Kept.TheVariants.{Whole}
 use Rattle.core_tree.specs.declared.faults.Why.TheVariants.{Mismatch}
-use Rattle.cdle.specs.Call.{Call, Sight, no_command, absent, too_long, unread, text, Saw}
+use Rattle.cdle.specs.Call.{Call, Sight, no_command, absent, too_long, unread, contents, Saw}
 use Rattle.cdle.specs.declared.outcome.Badness.{Badness}
 use Rattle.cdle.specs.declared.outcome.Badness.TheVariants as bad
 use Rattle.cdle.specs.declared.outcome.Outcome.{Outcome}
@@ -56,10 +56,10 @@ IsOutcome no_command outcome.Usage = Unit {0}
 IsOutcome (absent file) (outcome.Missing name) = name ≡ file
 IsOutcome (too_long file) (outcome.Limit name OfBytes) = name ≡ file
 IsOutcome (unread file) (outcome.ReadFault name) = name ≡ file
-IsOutcome (text file bytes) (outcome.Ok modules items) = (modules ≡ 0) × IsAccepted bytes items
-IsOutcome (text file bytes) (outcome.Malformed name at what) = (name ≡ file) × IsMalformed bytes at what
-IsOutcome (text file bytes) (outcome.Limit name Nesting) = (name ≡ file) × (at : ℕ) × IsFirstFault bytes [] (TooDeep at)
-IsOutcome (text file bytes) (outcome.Refused spot why) = (all : List Written) × Says bytes [] all × IsRefusal all spot why
+IsOutcome (contents file bytes) (outcome.Ok modules items) = (modules ≡ 0) × IsAccepted bytes items
+IsOutcome (contents file bytes) (outcome.Malformed name at what) = (name ≡ file) × IsMalformed bytes at what
+IsOutcome (contents file bytes) (outcome.Limit name Nesting) = (name ≡ file) × (at : ℕ) × IsFirstFault bytes [] (TooDeep at)
+IsOutcome (contents file bytes) (outcome.Refused spot why) = (all : List Written) × Says bytes [] all × IsRefusal all spot why
 IsOutcome s o = ⊥
 
 -- the outcome of the call's work, before its report is put

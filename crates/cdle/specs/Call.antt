@@ -20,7 +20,7 @@ pub data Sight : Type 0 where
   absent : Bytes → Sight
   too_long : Bytes → Sight
   unread : Bytes → Sight
-  text : Bytes → Bytes → Sight
+  contents : Bytes → Bytes → Sight
 
 -- the most bytes of a file
 abbrev pub most_bytes : ℕ
@@ -33,12 +33,12 @@ Saw c no_command = (asked_file c.words ≡ None) × (c.given_after ≡ c.given)
 Saw c (absent file) = (asked_file c.words ≡ Some file) × (c.given_after ≡ c.given) × Rose c.absences c.absences_after × IfSome c.files (λ f. f file ≡ None)
 Saw c (too_long file) = (asked_file c.words ≡ Some file) × (c.given_after ≡ c.given) × IfSome c.files (λ f. IsLonger most_bytes (f file))
 Saw c (unread file) = (asked_file c.words ≡ Some file) × (c.given_after ≡ c.given) × Rose c.read_faults c.read_faults_after
-Saw c (text file bytes) = (asked_file c.words ≡ Some file) × (c.given_after ≡ with_read file bytes c.given) × (length bytes ≤ most_bytes) × IfSome c.files (λ f. f file ≡ Some bytes)
+Saw c (contents file bytes) = (asked_file c.words ≡ Some file) × (c.given_after ≡ with_read file bytes c.given) × (length bytes ≤ most_bytes) × IfSome c.files (λ f. f file ≡ Some bytes)
 
 -- what there is to see in these files, where nothing fails
 abbrev pub seen_file : Bytes → Option Bytes → Sight
 seen_file file None = absent file
-seen_file file (Some bytes) = if nat_le (length bytes) most_bytes then text file bytes else too_long file
+seen_file file (Some bytes) = if nat_le (length bytes) most_bytes then contents file bytes else too_long file
 
 abbrev pub seen : Option Bytes → Files → Sight
 seen None f = no_command

@@ -11,7 +11,7 @@ ghost use Rattle.cdle.specs.declared.outcome.Outcome.TheVariants.{NoMemory as Wa
 
 use crate::outcome::{Exit, Outcome};
 use crate::report::report;
-use crate::work::work;
+use crate::work::answer;
 use cdle_folder::{Folder, Sink};
 use cdle_model::NoMemory;
 use std::alloc::Global;
@@ -48,7 +48,7 @@ pub fn cdle_run<F: Folder, S: Sink>(
         → Quiet (S.faults out.old) (S.faults out.new) → IsOutcome (seen (asked_file (map string_bytes words.now.items)) files) outcome
         → (outcome ≡ Wanted → ⊥) → (result.outcome ≡ outcome) ⊎ (result.outcome ≡ Wanted) }
 {
-    let work = work(alloc, words, folder);
+    let work = answer(alloc, words, folder);
     let outcome = put_report(alloc, work.outcome, &work.text, out);
     Exit {
         status: outcome.status(),

@@ -5,7 +5,7 @@ ghost use Rattle.core_text.specs.File.{IsFaultOf};
 ghost use Rattle.core_text.specs.View.{IsPlaced};
 ghost use Rattle.cdle_model.specs.Report.{wanted_word};
 ghost use Rattle.cdle.specs.Answers.{IsItemName, IsOutcome};
-ghost use Rattle.cdle.specs.Call.{text};
+ghost use Rattle.cdle.specs.Call.{contents};
 ghost use Rattle.cdle_model.specs.FirstCheck.{first_check};
 ghost use Rattle.core_check.specs.Answer.{IsFaultOf as IsFault};
 ghost use Rattle.cdle.specs.Works.{IsRefused, IsWork, sight_of_stop};
@@ -31,7 +31,7 @@ pub(crate) struct Work {
 }
 
 /// Does what the words ask for.
-pub(crate) fn work<F: Folder>(alloc: Global, words: &Vec<String>, folder: &mut F) -> Work
+pub(crate) fn answer<F: Folder>(alloc: Global, words: &Vec<String>, folder: &mut F) -> Work
     ensures files { F.files folder.new ≡ F.files folder.old }
     ensures work { IsWork (record {
       words = map string_bytes words.now.items;
@@ -83,7 +83,7 @@ fn stopped(alloc: Global, file: &str, stop: ReadStop) -> Outcome
 /// The outcome of a file's text.
 fn outcome_of(alloc: Global, file: &str, text: &[u8]) -> Outcome
     requires { length text.now ≤ 1048576 }
-    ensures { IsOutcome (text file.now text.now) result }
+    ensures { IsOutcome (contents file.now text.now) result }
 {
     match checked(alloc, file, text) {
         Ok(outcome) => outcome,
@@ -93,7 +93,7 @@ fn outcome_of(alloc: Global, file: &str, text: &[u8]) -> Outcome
 
 fn checked(alloc: Global, file: &str, text: &[u8]) -> Result<Outcome, NoMemory>
     requires { length text.now ≤ 1048576 }
-    ensures { IfOk result (λ outcome. IsOutcome (text file.now text.now) outcome) }
+    ensures { IfOk result (λ outcome. IsOutcome (contents file.now text.now) outcome) }
 {
     match read_core(alloc, text, &CoreScope::new(alloc)) {
         Ok(read) => checked_items(alloc, file, text, read),
@@ -110,7 +110,7 @@ fn malformed(
 ) -> Result<Outcome, NoMemory>
     requires fault { IsFaultOf text.now [] fault }
     requires placed { IsPlaced text.now fault }
-    ensures { IfOk result (λ outcome. IsOutcome (text file.now text.now) outcome) }
+    ensures { IfOk result (λ outcome. IsOutcome (contents file.now text.now) outcome) }
 {
     let file = Text::new(alloc, file)?;
     let (at, what) = match fault {
@@ -162,7 +162,7 @@ fn checked_items(
 ) -> Result<Outcome, NoMemory>
     requires said { Says text.now [] read.items }
     requires few { length read.items ≤ 1048576 }
-    ensures { IfOk result (λ outcome. IsOutcome (text file.now text.now) outcome) }
+    ensures { IfOk result (λ outcome. IsOutcome (contents file.now text.now) outcome) }
 {
     let mut files = Vec::new(alloc);
     files.push(read)?;
