@@ -1,11 +1,11 @@
 -- How the check stands after some of the items.
-use Rattle.std.proofs.Common.{◌≡◌, ℕ, zero, suc, ◌≤◌, Bool, true, false, cond, Decides, List, [], ◌∷◌, ◌++◌, length, Option, Some, None, option_map, refl, sym, ap, subst, ◌∙◌, arith, slice_get}
+use Rattle.std.proofs.Common.{◌≡◌, ℕ, zero, suc, ◌≤◌, Bool, true, false, cond, Decides, List, [], ◌∷◌, ◌++◌, length, Option, Some, None, option_map, refl, sym, ap, subst, ◌∙◌, arith}
 use Rattle.std.specs.Str.{bytes_eq}
 use Rattle.std.proofs.lemmas.Slice.Eq.{bytes_eq-Decides}
 use Rattle.std.proofs.lemmas.List.Elements.{All-push}
 use Rattle.cdle_model.specs.declared.grammar.Sort.{Sort}
 use Rattle.cdle_model.specs.declared.grammar.Sort.TheVariants.{OfTerm}
-use Rattle.cdle_model.specs.Trees.{Tree, var, name}
+use Rattle.cdle_model.specs.Trees.{Tree, name}
 use Rattle.cdle_model.specs.Forms.{pi, allt, lam, xlam, Written, def_item, type_item, name_of}
 use Rattle.cdle_model.specs.Classes.{types, terms, within, Fits, item_sorts, IsOver, AreOver, AreItems}
 use Rattle.cdle_model.specs.Depth.{depth}
@@ -105,16 +105,17 @@ counted ws es rest tys names s = ap length s.types ∙ length_types es
 -- what the check says of the next item
 pub next : (ws es rest : List Written) (tys : List Tree) (names : List ℕ → Option ℕ) (w : Written) (more : List Written) → Standing ws es rest tys names → rest ≡ w ∷ more
     → IsFirstItem w × IsItemOver tys w
-      × (first_check ws ≡ by_name (length tys) (names (name_of w)) (item_verdict tys (length tys) w (first_check_after (es ++ (w ∷ [])) more)))
+    × (first_check ws ≡ by_name (length tys) (names (name_of w)) (item_verdict tys (length tys) w (first_check_after (es ++ (w ∷ [])) more)))
 next ws es rest tys names w more s e =
     let forms = subst AreFirstItems e s.forms in
     let over = subst (AreOver es) e s.over in
     let verdict : first_check ws ≡ by_name (length es) (first_of (name_of w) es) (by_item es w (first_check_after (es ++ (w ∷ [])) more)) = s.same ∙ ap (first_check_after es) e in
     let item = verdict_same es w (first_check_after (es ++ (w ∷ [])) more) s.done in
-    let count = length_types es in
-    (forms.0,
-     subst (λ (l : List Tree). IsItemOver l w) (sym s.types) (over_same es w s.done forms.0 over.0),
-     rw (s.types, count, s.named (name_of w), ← item) verdict)
+    let count = length_types es in (
+      forms.0,
+      subst (λ (l : List Tree). IsItemOver l w) (sym s.types) (over_same es w s.done forms.0 over.0),
+      rw (s.types, count, s.named (name_of w), ← item) verdict,
+    )
 
 -- an earlier item has the name of the next one
 pub taken : (ws es rest : List Written) (tys : List Tree) (names : List ℕ → Option ℕ) (w : Written) (more : List Written) (n k : ℕ) (q : List ℕ) → Standing ws es rest tys names → rest ≡ w ∷ more
@@ -142,7 +143,7 @@ advanced ws es rest tys names w more es_new ty tys_new names_new s e grown fresh
     let over = subst (AreOver es) e s.over in
     let forms = subst AreFirstItems e s.forms in
     let verdict : first_check ws ≡ first_check_after (es ++ (w ∷ [])) more =
-          n.2 ∙ ap (λ (o : Option ℕ). by_name (length tys) o (item_verdict tys (length tys) w (first_check_after (es ++ (w ∷ [])) more))) fresh ∙ accepted _ in
+    n.2 ∙ ap (λ (o : Option ℕ). by_name (length tys) o (item_verdict tys (length tys) w (first_check_after (es ++ (w ∷ [])) more))) fresh ∙ accepted _ in
     record {
       types = pushed ∙ ap (λ (l : List Tree). l ++ (ty ∷ [])) s.types ∙ ap (λ (a : Tree). types_of es ++ (a ∷ [])) typed ∙ sym (more_types es w) ∙ ap types_of (sym grown);
       named = λ q. named_more q es w (names q) (names_new q) (sym (s.named (name_of w)) ∙ fresh) (s.named q) (named q ∙ ap (λ (k : ℕ). cond (bytes_eq (name_of w) q) (Some k) (names q)) (counted ws es rest tys names s))
@@ -151,7 +152,7 @@ advanced ws es rest tys names w more es_new ty tys_new names_new s e grown fresh
       done = subst AreFirstItems (sym grown) (more_items es w s.done forms.0);
       forms = forms.1;
       over = subst (λ (l : List Written). AreOver l more) (sym grown) over.1;
-      known = subst AreTypes (sym pushed) (All-push (λ a. IsFirstType a × (depth a ≤ 4096)) tys ty s.known (form, shallow))
+      known = subst AreTypes (sym pushed) (All-push (λ a. IsFirstType a × (depth a ≤ 4096)) tys ty s.known (form, shallow));
     }
 
 pub finished : (ws es rest : List Written) (tys : List Tree) (names : List ℕ → Option ℕ) → Standing ws es rest tys names → rest ≡ [] → first_check ws ≡ accepts

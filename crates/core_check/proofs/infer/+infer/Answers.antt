@@ -3,7 +3,6 @@ use Rattle.cdle_model.specs.Classes.{terms, within, Fits}
 use Rattle.cdle_model.specs.Depth.{depth}
 use Rattle.cdle_model.specs.Derivation.{Entry}
 use Rattle.cdle_model.specs.FirstCheck.{IsFirstTerm, IsFirstType, first_type, type_in}
-use Rattle.cdle_model.specs.Forms.{pi}
 use Rattle.cdle_model.specs.Trees.{Tree, IsBelow}
 use Rattle.core_tree.specs.Forms.{term_tree}
 use Rattle.core_tree.specs.declared.term.TermForm.{TermForm}
@@ -32,9 +31,19 @@ infer-requires t c =
     let same = c.in_ok-domain-in-Lam.ensures.is ∙ first_erased c.in-Lam.ty form.0 in
     let below = first_below (sorts c.args.context.now) (term_sorts c.args.types.now) c.in-Lam.ty form.0 fits.0 in
     let smaller = ap depth is in
-    let shallow = c.in_ok-domain-in-Lam.ensures.no_deeper in
-    (omega arith, (form.1, (fits.1, ((subst IsFirstType (sym same) form.0, subst (IsBelow (length (sorts c.args.context.now))) (sym same) below, omega arith, c.requires.sound),
-        (omega arith, c.requires.types)))))
+    let shallow = c.in_ok-domain-in-Lam.ensures.no_deeper in (
+      omega arith,
+      (
+        form.1,
+        (
+          fits.1,
+          (
+            (subst IsFirstType (sym same) form.0, subst (IsBelow (length (sorts c.args.context.now))) (sym same) below, omega arith, c.requires.sound),
+            (omega arith, c.requires.types),
+          ),
+        ),
+      ),
+    )
 
 pub returns-in-Var-clause-is : goal.returns-in-Var-clause-is
 returns-in-Var-clause-is t c =
