@@ -1,5 +1,5 @@
 -- The types of the first forms: they are their own erasures, and stay of these forms when they are shifted.
-use Rattle.std.proofs.Common.{◌≡◌, ℕ, suc, ◌+◌, ◌≤◌, true, List, [], ◌∷◌, length, Some, slice_get, refl, ap₂, arith}
+use Rattle.std.proofs.Common.{◌≡◌, ℕ, suc, ◌+◌, ◌≤◌, List, ◌∷◌, length, Some, slice_get, refl, ap₂, arith}
 use Rattle.std.proofs.lemmas.Option.{slice_get_within}
 use Rattle.cdle_model.specs.declared.grammar.Sort.{Sort}
 use Rattle.cdle_model.specs.declared.grammar.Sort.TheVariants.{OfTerm, OfType}

@@ -1,11 +1,10 @@
 -- The items so far, and what is kept of them.
-use Rattle.std.proofs.Common.{◌≡◌, ℕ, zero, suc, ◌<◌, List, [], ◌∷◌, length, Option, Some, None, option_map, get_or, refl, sym, ap, subst, ◌∙◌, arith, slice_get}
-use Rattle.cdle_model.specs.declared.grammar.Sort.{Sort}
+use Rattle.std.proofs.Common.{◌≡◌, ℕ, zero, suc, ◌<◌, List, [], ◌∷◌, length, Some, get_or, sym, ap, ◌∙◌, arith, slice_get}
 use Rattle.cdle_model.specs.declared.grammar.Sort.TheVariants.{OfTerm}
 use Rattle.cdle_model.specs.Trees.{Tree}
-use Rattle.cdle_model.specs.Derivation.{Entry, item}
+use Rattle.cdle_model.specs.Derivation.{item}
 use Rattle.cdle_model.specs.FirstCheck.{type_in}
-use Rattle.core_check.specs.Context.{lifted, term_sorts, typed}
+use Rattle.core_check.specs.Context.{term_sorts, typed}
 
 -- a name is the number of an item so far
 pub name_below : (tys : List Tree) (n : ℕ) → slice_get (term_sorts tys) n ≡ Some OfTerm → n < length tys

@@ -1,5 +1,5 @@
 -- The items of a file and of files, one after the other.
-use Rattle.std.proofs.Common.{◌≡◌, ℕ, suc, ◌+◌, ◌<◌, List, [], ◌∷◌, ◌++◌, length, get_or, take, drop, map, refl, sym, ap, ◌∙◌, arith, append_assoc, drop-cons}
+use Rattle.std.proofs.Common.{◌≡◌, ℕ, suc, ◌+◌, ◌<◌, ◌≤◌, Bor, List, [], ◌∷◌, ◌++◌, length, get_or, take, drop, map, refl, sym, ap, ◌∙◌, arith, append_assoc, drop-cons}
 use Rattle.std.proofs.lemmas.List.{take_more, map-append, get_or-map, length-map, append-nil}
 use Rattle.cdle_model.specs.Forms.{Written}
 use Rattle.core_tree.specs.declared.items.CoreItem.{CoreItem}
@@ -30,20 +30,30 @@ pub items_more : (fs : List CoreFile) (i : ℕ) (f : CoreFile) → i < length fs
 items_more fs i f lt e = ap items_of (take_more fs i f lt) ∙ items_append (take i fs) (get_or fs i f ∷ []) ∙ ap (λ (l : List Written). items_of (take i fs) ++ l) (append-nil (get_or fs i f).items)
     ∙ ap (λ (g : CoreFile). items_of (take i fs) ++ g.items) (sym e)
 
--- the elements of a list up to one of them, and from it on
-pub up_to_next : {X : Type 0} (f : X → Written) (xs : List X) (ws : List Written) (i : ℕ) (x : X) → map f xs ≡ ws → i < length xs → x ≡ get_or xs i x → take (i + 1) ws ≡ take i ws ++ (f x ∷ [])
-up_to_next f xs ws i x m lt e =
-    let same = get_or-map f xs i x (f x) lt in
-    let len = length-map xs f in
-    let below : i < length (map f xs) = omega arith in
-    let next = take_more (map f xs) i (f x) below in
-    rw (← m) (next ∙ ap (λ (w : Written). take i (map f xs) ++ (w ∷ [])) (same ∙ ap f (sym e)))
+-- an item behind its reference
+abbrev pub behind : Bor CoreItem → Written
+behind i = written i.now
 
-pub from_this : {X : Type 0} (f : X → Written) (xs : List X) (ws : List Written) (i : ℕ) (x : X) → map f xs ≡ ws → i < length xs → x ≡ get_or xs i x → drop i ws ≡ f x ∷ drop (i + 1) ws
-from_this f xs ws i x m lt e =
-    let same = get_or-map f xs i x (f x) lt in
-    let len = length-map xs f in
-    let below : i < length (map f xs) = omega arith in
-    let next = drop-cons (map f xs) i (f x) below in
+-- the items up to one of them, and from it on
+pub up_to_next : (xs ys : List (Bor CoreItem)) (ws : List Written) (i : ℕ) (x : Bor CoreItem) → xs ≡ ys → map behind ys ≡ ws → i < length xs → x ≡ get_or xs i x
+    → take (i + 1) ws ≡ take i ws ++ (behind x ∷ [])
+up_to_next xs ys ws i x v m lt e =
+    let same = get_or-map behind xs i x (behind x) lt in
+    let len = length-map xs behind in
+    let below : i < length (map behind xs) = omega arith in
+    rw (← m, ← v) (take_more (map behind xs) i (behind x) below ∙ ap (λ (w : Written). take i (map behind xs) ++ (w ∷ [])) (same ∙ ap behind (sym e)))
+
+pub from_this : (xs ys : List (Bor CoreItem)) (ws : List Written) (i : ℕ) (x : Bor CoreItem) → xs ≡ ys → map behind ys ≡ ws → i < length xs → x ≡ get_or xs i x → drop i ws ≡ behind x ∷ drop (i + 1) ws
+from_this xs ys ws i x v m lt e =
+    let same = get_or-map behind xs i x (behind x) lt in
+    let len = length-map xs behind in
+    let below : i < length (map behind xs) = omega arith in
     let one : suc i ≡ i + 1 = omega arith in
-    rw (← m) (next ∙ ap (λ (w : Written). w ∷ drop (suc i) (map f xs)) (same ∙ ap f (sym e)) ∙ ap (λ (n : ℕ). f x ∷ drop n (map f xs)) one)
+    rw (← m, ← v) (drop-cons (map behind xs) i (behind x) below ∙ ap (λ (w : Written). w ∷ drop (suc i) (map behind xs)) (same ∙ ap behind (sym e)) ∙ ap (λ (n : ℕ). behind x ∷ drop n (map behind xs)) one)
+
+pub all_passed : (xs ys : List (Bor CoreItem)) (ws : List Written) (i : ℕ) → xs ≡ ys → map behind ys ≡ ws → length xs ≤ i → length ws ≤ i
+all_passed xs ys ws i v m past =
+    let len = length-map xs behind in
+    let same = ap (λ (l : List (Bor CoreItem)). length (map behind l)) v in
+    let whole = ap length m in
+    omega arith

@@ -1,11 +1,11 @@
 -- How the check stands after some of the items.
-use Rattle.std.proofs.Common.{◌≡◌, ℕ, zero, suc, ◌≤◌, Bool, true, false, cond, Decides, List, [], ◌∷◌, ◌++◌, length, Option, Some, None, option_map, refl, sym, ap, subst, ◌∙◌, arith, slice_get}
+use Rattle.std.proofs.Common.{◌≡◌, ℕ, zero, suc, ◌≤◌, Bool, true, false, cond, Decides, List, [], ◌∷◌, ◌++◌, length, Option, Some, None, option_map, refl, sym, ap, subst, ◌∙◌, arith}
 use Rattle.std.specs.Str.{bytes_eq}
 use Rattle.std.proofs.lemmas.Slice.Eq.{bytes_eq-Decides}
 use Rattle.std.proofs.lemmas.List.Elements.{All-push}
 use Rattle.cdle_model.specs.declared.grammar.Sort.{Sort}
 use Rattle.cdle_model.specs.declared.grammar.Sort.TheVariants.{OfTerm}
-use Rattle.cdle_model.specs.Trees.{Tree, var, name}
+use Rattle.cdle_model.specs.Trees.{Tree, name}
 use Rattle.cdle_model.specs.Forms.{pi, allt, lam, xlam, Written, def_item, type_item, name_of}
 use Rattle.cdle_model.specs.Classes.{types, terms, within, Fits, item_sorts, IsOver, AreOver, AreItems}
 use Rattle.cdle_model.specs.Depth.{depth}

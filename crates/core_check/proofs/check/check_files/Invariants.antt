@@ -1,4 +1,4 @@
-use Rattle.std.proofs.Common.{List, ℕ, take, drop}
+use Rattle.std.proofs.Common.{take, drop}
 use Rattle.std.specs.HashMap.{get_by_text}
 use Rattle.core_check.specs.Items.{items_of}
 use Rattle.core_check.proofs.Standing.{Standing}

@@ -1,9 +1,7 @@
-use Rattle.std.proofs.Common.{◌≡◌, ℕ, ◌+◌, ◌≤◌, Some, subst, refl, sym, ap, arith, ◌∙◌, List, []}
-use Rattle.cdle_model.specs.FirstCheck.{FirstVerdict, IsFirstItem, IsFirstType}
+use Rattle.std.proofs.Common.{subst, sym, ◌∙◌}
+use Rattle.cdle_model.specs.FirstCheck.{IsFirstItem, IsFirstType}
 use Rattle.core_tree.specs.Items.{written}
 use Rattle.core_tree.specs.declared.items.CoreItem.{CoreItem}
-use Rattle.core_check.specs.Answer.{IsFaultOf}
-use Rattle.core_check.specs.Items.{IsItemOver, item_verdict, type_of_item}
 use Rattle.core_check.proofs.Forms.{first_erased, first_has_erasure}
 use Rattle.core_check.proofs.check.check_item.Goals as goal
 

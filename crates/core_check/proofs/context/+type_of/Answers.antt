@@ -1,8 +1,7 @@
 use Rattle.std.proofs.Common.{◌≡◌, ◌+◌, ◌≤◌, Option, Some, IfOk, length, option_map, slice_get, arith, subst, sym}
 use Rattle.cdle_model.specs.declared.grammar.Sort.TheVariants.{OfTerm}
 use Rattle.cdle_model.specs.Derivation.{Entry, term_of, type_of, entry}
-use Rattle.cdle_model.specs.Depth.{depth}
-use Rattle.cdle_model.specs.FirstCheck.{IsFirstType, type_in}
+use Rattle.cdle_model.specs.FirstCheck.{type_in}
 use Rattle.cdle_model.specs.Forms.{star}
 use Rattle.cdle_model.proofs.Trees.{depth_shift}
 use Rattle.core_check.specs.Context.{IsSound, entries, lifted, sorts}

@@ -3,7 +3,6 @@ use Rattle.cdle_model.specs.Classes.{terms, within, Fits}
 use Rattle.cdle_model.specs.Depth.{depth}
 use Rattle.cdle_model.specs.Derivation.{Entry}
 use Rattle.cdle_model.specs.FirstCheck.{IsFirstTerm, IsFirstType, first_type, type_in}
-use Rattle.cdle_model.specs.Forms.{pi}
 use Rattle.cdle_model.specs.Trees.{Tree, IsBelow}
 use Rattle.core_tree.specs.Forms.{term_tree}
 use Rattle.core_tree.specs.declared.term.TermForm.{TermForm}
