@@ -3,3 +3,4 @@ pub mod Sights
 pub mod Exact
 pub mod Verdicts
 pub mod Runs
+pub mod Texts

@@ -2,6 +2,7 @@
 ghost use Rattle.std.specs.Prelude.{◌≡◌, ◌<◌, IfOk, length, string_bytes};
 ghost use Rattle.cdle_model.specs.Places.{column_of, line_of};
 ghost use Rattle.cdle_model.specs.Report.{count_word, path_text};
+ghost use Rattle.cdle.specs.declared.outcome.Spot.TheVariants.{CoreSpot};
 ghost use Rattle.cdle.specs.Reports.{IsShown, IsTextTo, bad_word, refusal_line, report_of, why_word};
 
 use crate::outcome::{Badness, Outcome, Reason, Spot};
@@ -29,7 +30,10 @@ pub(crate) fn report(alloc: Global, outcome: &Outcome, text: &[u8]) -> Result<St
             let usage = "usage: cdle core FILE.. | cdle build MODULE | cdle make N [--budget N]\n";
             Ok(String::from_str(alloc, usage)?)
         }
-        Outcome::Refused { place, why } => refusal(alloc, place, why),
+        Outcome::Refused {
+            place: Spot::CoreSpot { item, path },
+            why,
+        } => refusal(alloc, item.as_str(), path.numbers(), why),
         Outcome::ReadFault { file } => {
             let file = file.as_str();
             Ok(format!(in alloc; "cannot read {file}\n")?)
@@ -48,14 +52,12 @@ pub(crate) fn report(alloc: Global, outcome: &Outcome, text: &[u8]) -> Result<St
     }
 }
 
-fn refusal(alloc: Global, place: &Spot, why: &Reason) -> Result<String, NoMemory>
-    ensures { IfOk result (λ report. string_bytes report ≡ refusal_line place.now why.now) }
+fn refusal(alloc: Global, item: &str, path: &[u32], why: &Reason) -> Result<String, NoMemory>
+    ensures { IfOk result (λ report. string_bytes report ≡ refusal_line (CoreSpot item.now path.now) why.now) }
 {
-    let Spot::CoreSpot { item, path } = place;
-    let item = item.as_str();
     match why {
         Reason::Core(why) => {
-            let path = path_of(alloc, path.numbers())?;
+            let path = path_of(alloc, path)?;
             let why = why_text(why);
             Ok(format!(in alloc; "refused {item} at {path}: {why}\n")?)
         }
