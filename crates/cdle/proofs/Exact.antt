@@ -1,8 +1,8 @@
 -- The one outcome where nothing fails.
-use Rattle.std.proofs.Common.{◌≡◌, ◌⊎◌, inl, inr, Option, Some, refl, sym, subst, ◌∙◌}
+use Rattle.std.proofs.Common.{◌≡◌, ◌⊎◌, inl, inr, Some, refl, sym, subst, ◌∙◌}
 use Rattle.cdle_folder.specs.Causes.{Quiet}
 use Rattle.cdle_folder.specs.Files.{Bytes, Files}
-use Rattle.cdle.specs.Call.{Call, Sight, Saw, seen}
+use Rattle.cdle.specs.Call.{Call, Sight, seen}
 use Rattle.cdle.specs.Answers.{IsAnswer, IsOutcome}
 use Rattle.cdle.specs.Reports.{Output, Ends, IsRun, report_of, text_seen}
 use Rattle.cdle.specs.Words.{asked_file}

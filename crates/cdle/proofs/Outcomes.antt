@@ -1,5 +1,5 @@
 -- What was seen has one outcome, beside want of memory.
-use Rattle.std.proofs.Common.{◌≡◌, ◌⊎◌, inl, inr, ℕ, zero, suc, false, List, [], ◌∷◌, Option, Some, None, Result, Ok, Err, length, drop, take, refl, sym, ap, subst, ◌∙◌, slice_get, arith}
+use Rattle.std.proofs.Common.{◌≡◌, ◌⊎◌, inl, inr, ℕ, false, List, [], ◌∷◌, Option, Some, None, length, drop, refl, sym, ap, subst, ◌∙◌, slice_get, arith}
 use Rattle.std.specs.Str.{IsUtf8, IsValidUpTo}
 use Rattle.std.proofs.lemmas.List.{take_all}
 use Rattle.std.proofs.lemmas.Str.{utf8_valid_len-IsValidUpTo}
@@ -7,7 +7,7 @@ use Rattle.cdle_folder.specs.Files.{Bytes}
 use Rattle.cdle_model.specs.CoreFaults.{Fault, BadText, Unbound, WrongClass, TooDeep}
 use Rattle.cdle_model.specs.CoreText.{Says}
 use Rattle.cdle_model.specs.CoreTokens.{Token, Word, IsWordAt, tokens}
-use Rattle.cdle_model.specs.CoreWants.{IsFirstFault, run, start}
+use Rattle.cdle_model.specs.CoreWants.{IsFirstFault}
 use Rattle.cdle_model.specs.FirstCheck.{FirstVerdict, accepts, refuses, duplicate, unknown, first_check}
 use Rattle.cdle_model.specs.Forms.{Written, name_of}
 use Rattle.cdle_model.specs.Report.{wanted_word}
@@ -17,7 +17,7 @@ use Rattle.cdle_model.proofs.CoreRuns.{file_runs}
 use Rattle.core_tree.specs.declared.faults.Kept.TheVariants.{Whole}
 use Rattle.core_tree.specs.declared.faults.Why.TheVariants.{Mismatch}
 use Rattle.cdle.specs.Call.{Sight, no_command, absent, too_long, unread, contents}
-use Rattle.cdle.specs.Answers.{IsAccepted, IsItemName, IsMalformed, IsOutcome, IsRefusal}
+use Rattle.cdle.specs.Answers.{IsItemName, IsMalformed, IsOutcome, IsRefusal}
 use Rattle.cdle.specs.declared.outcome.Badness.{Badness}
 use Rattle.cdle.specs.declared.outcome.Badness.TheVariants as bad
 use Rattle.cdle.specs.declared.outcome.Outcome.{Outcome}

@@ -1,43 +1,16 @@
 -- From the work of a call to its end.
-use Rattle.std.proofs.Common.{◌≡◌, ◌⊎◌, inl, inr, ℕ, ◌≤◌, ◌<◌, [], Some, None, IfSome, MatchOption, length, refl, sym, ap, subst, ◌∙◌, arith}
-use Rattle.std.specs.Str.{IsUtf8}
+use Rattle.std.proofs.Common.{◌≡◌, ◌⊎◌, inl, inr, ◌≤◌, [], Some, None, IfSome, MatchOption, length, refl, subst, ◌∙◌}
 use Rattle.cdle_folder.specs.Causes.{Rose}
 use Rattle.cdle_folder.specs.Files.{Bytes, IsLonger, with_read}
 use Rattle.cdle_folder.specs.declared.outside.ReadStop.{ReadStop}
 use Rattle.cdle_folder.specs.declared.outside.ReadStop.TheVariants as stops
 use Rattle.cdle.specs.Words.{asked_file}
-use Rattle.cdle.specs.Call.{Call, Sight, no_command, absent, too_long, unread, contents, Saw, most_bytes}
-use Rattle.cdle.specs.Answers.{IsMalformed, IsOutcome}
-use Rattle.cdle.specs.Reports.{Output, Ends, IsRun, IsShown, IsTextTo, report_of, text_seen}
+use Rattle.cdle.specs.Call.{Call, no_command, absent, too_long, unread, contents, most_bytes}
+use Rattle.cdle.specs.Answers.{IsOutcome}
+use Rattle.cdle.specs.Reports.{Output, Ends, IsRun, report_of}
 use Rattle.cdle.specs.Works.{IsWork, sight_of_stop}
-use Rattle.cdle.specs.declared.outcome.Badness.{Badness}
-use Rattle.cdle.specs.declared.outcome.Badness.TheVariants as bad
 use Rattle.cdle.specs.declared.outcome.Outcome.{Outcome}
 use Rattle.cdle.specs.declared.outcome.Outcome.TheVariants as outcome
-
-text_to : (bytes : Bytes) (at : ℕ) (what : Badness) → IsMalformed bytes at what → IsTextTo bytes at
-text_to bytes at bad.NotUtf8 h = inr h
-text_to bytes at (bad.Wanted word) h = inl h.2.0
-text_to bytes at (bad.Unbound name) h = inl h.1.0
-text_to bytes at (bad.WrongClass name) h = inl h.1.0
-
-malformed_shown : (c : Call) (s : Sight) (name : Bytes) (at : ℕ) (what : Badness) → Saw c s → IsOutcome s (outcome.Malformed name at what) → IsShown (text_seen s) (outcome.Malformed name at what)
-malformed_shown c no_command name at what saw h = absurd h
-malformed_shown c (absent file) name at what saw h = absurd h
-malformed_shown c (too_long file) name at what saw h = absurd h
-malformed_shown c (unread file) name at what saw h = absurd h
-malformed_shown c (contents file bytes) name at what saw h = (omega (arith, saw.2), text_to bytes at what h.1)
-
-outcome_shown : (c : Call) (s : Sight) (o : Outcome) → Saw c s → IsOutcome s o → IsShown (text_seen s) o
-outcome_shown c s (outcome.Malformed name at what) saw h = malformed_shown c s name at what saw h
-outcome_shown c s o saw h = tt
-
-answer_shown : (c : Call) (s : Sight) (o : Outcome) → (o ≡ outcome.NoMemory) ⊎ Saw c s × IsOutcome s o → IsShown (text_seen s) o
-answer_shown c s o (inl e) = subst (IsShown (text_seen s)) (sym e) tt
-answer_shown c s o (inr h) = outcome_shown c s o h.0 h.1
-
-pub work_shown : (c : Call) (o : Outcome) (bytes : Bytes) → IsWork c o bytes → IsShown bytes o
-work_shown c o bytes w = subst (λ (b : Bytes). IsShown b o) (sym w.read) (answer_shown c w.sight o w.answer)
 
 pub run_of : (c : Call) (out : Output) (o end : Outcome) (text bytes : Bytes) → text ≡ bytes → IsWork c o bytes
     → Ends out (report_of text o) o end ⊎ Ends out (report_of text outcome.NoMemory) outcome.NoMemory end → IsRun c out end

@@ -1,5 +1,5 @@
 -- The items of which the check speaks are in the list.
-use Rattle.std.proofs.Common.{◌≡◌, ℕ, ◌+◌, ◌<◌, List, [], ◌∷◌, ◌++◌, length, Option, Some, None, refl, subst, arith, length-append}
+use Rattle.std.proofs.Common.{◌≡◌, ℕ, ◌+◌, ◌<◌, List, [], ◌∷◌, ◌++◌, length, Option, Some, None, subst, arith, length-append}
 use native.Mathlib.Decide.{ℕ_discrete}
 use Rattle.cdle_model.specs.Trees.{Leaf-discrete, Unary-discrete, Function-discrete, Binary-discrete, Binder-discrete, Tree, Tree-discrete}
 use Rattle.cdle_model.specs.Forms.{Written, def_item, type_item, name_of}

@@ -1,5 +1,5 @@
 -- The answers of the program, each with its cause.
-use Rattle.std.specs.Prelude.{◌≡◌, ◌⊎◌, ℕ, List, [], ◌∷◌, Option, Some, None, length, slice_get}
+use Rattle.std.specs.Prelude.{◌≡◌, ◌⊎◌, ℕ, List, [], Some, length, slice_get}
 use Rattle.std.specs.Str.{IsValidUpTo}
 use Rattle.cdle_folder.specs.Files.{Bytes}
 use Rattle.cdle_model.specs.CoreFaults.{BadText, Unbound, WrongClass, TooDeep}

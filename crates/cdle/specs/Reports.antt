@@ -6,7 +6,7 @@ use Rattle.cdle_folder.specs.Files.{Bytes, PutsPrefix, with_bytes}
 use Rattle.cdle_model.specs.Report.{accepted_line, malformed_line, usage_line, refused_line, duplicate_line, cannot_read_line, out_of_memory_line, limit_line, missing_line}
 use Rattle.core_tree.specs.declared.faults.Why.{Why}
 use Rattle.core_tree.specs.declared.faults.Why.TheVariants as why
-use Rattle.cdle.specs.Call.{Call, Sight, no_command, absent, too_long, unread, contents}
+use Rattle.cdle.specs.Call.{Call, Sight, contents}
 use Rattle.cdle.specs.Answers.{IsAnswer}
 use Rattle.cdle.specs.declared.outcome.Badness.{Badness}
 use Rattle.cdle.specs.declared.outcome.Badness.TheVariants as bad

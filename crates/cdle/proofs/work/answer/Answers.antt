@@ -1,6 +1,6 @@
 use Rattle.std.proofs.Common.{Err, sym, ap, subst}
 use Rattle.cdle_folder.specs.Files.{Bytes}
-use Rattle.cdle.proofs.Runs.{IsStopped, read_work, stopped_work}
+use Rattle.cdle.proofs.Runs.{read_work, stopped_work}
 use Rattle.cdle.specs.Answers.{IsOutcome}
 use Rattle.cdle.specs.Call.{contents}
 use Rattle.cdle.proofs.work.answer.Goals as goal

@@ -1,6 +1,5 @@
 use Rattle.std.proofs.Common.{subst}
 use Rattle.cdle_model.specs.FirstCheck.{first_check}
-use Rattle.core_tree.specs.declared.faults.CoreFault.{CoreFault}
 use Rattle.core_check.specs.Answer.{IsFaultOf}
 use Rattle.cdle.proofs.Verdicts.{duplicate_within, refused_within}
 use Rattle.cdle.proofs.work.refused.Goals as goal
