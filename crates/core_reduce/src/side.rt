@@ -1,0 +1,168 @@
+ghost use Rattle.std.specs.Prelude.{◌≡◌, IfOk};
+ghost use Rattle.cdle_model.specs.Erasure.{HasErasure, erased};
+ghost use Rattle.core_reduce.specs.Sides.{IsKept, name_of};
+ghost use Rattle.core_reduce.specs.declared.side.SideClass.TheVariants.{OfPure, OfType, OfKind};
+
+use crate::root::{Arg, Root};
+use crate::spine::{guide_spine, kind_tree, pure_spine};
+use cdle_model::NoMemory;
+use core_tree::{Guide, GuideKind, Kept, Kind, Pure, Term, Ty};
+use std::alloc::Global;
+use std::marker::Model;
+
+/// What a side stands for: a pure term, an erased type or an erased kind.
+#[derive(Clone, Copy, Debug, PartialEq, Eq)]
+pub enum SideClass {
+    OfPure,
+    OfType,
+    OfKind,
+}
+
+/// An erased tree as its head with the arguments to which that is applied. Contracts see the class and the tree.
+#[derive(Drop)]
+pub struct Side {
+    pub(crate) head: Root,
+    // The outermost is the first.
+    pub(crate) args: Vec<Arg>,
+}
+
+impl Model for Side {
+    ghost use Rattle.cdle_model.specs.Classes.{IsOf};
+    ghost use Rattle.core_reduce.specs.Sides.{Sided, class_trees, root_class, root_tree, spine};
+    ghost use Rattle.core_reduce.specs.Code.{coded_side};
+
+    ghost Value = { Sided };
+
+    ghost coded = { coded_side };
+
+    ghost view = { λ s. record { class = root_class s.head; tree = spine (root_tree s.head) s.args.items } };
+
+    ghost invariant = { λ s. IsOf (class_trees (root_class s.head)) (spine (root_tree s.head) s.args.items) };
+}
+
+impl Side {
+    /// The erasure of the term.
+    pub fn of_term(alloc: Global, term: &Term) -> Result<Side, NoMemory>
+        requires { HasErasure term.now }
+        ensures { IfOk result (λ s. s ≡ record { class = OfPure; tree = erased term.now }) }
+    {
+        Side::whole_pure(alloc, term.erase(alloc)?)
+    }
+
+    pub fn of_pure(alloc: Global, term: &Pure) -> Result<Side, NoMemory>
+        ensures { IfOk result (λ s. s ≡ record { class = OfPure; tree = term.now }) }
+    {
+        Side::whole_pure(alloc, term.clone()?)
+    }
+
+    /// The erasure of the type.
+    pub fn of_type(alloc: Global, ty: &Ty) -> Result<Side, NoMemory>
+        requires { HasErasure ty.now }
+        ensures { IfOk result (λ s. s ≡ record { class = OfType; tree = erased ty.now }) }
+    {
+        Side::whole_guide(alloc, ty.erase(alloc)?)
+    }
+
+    pub fn of_guide(alloc: Global, guide: &Guide) -> Result<Side, NoMemory>
+        ensures { IfOk result (λ s. s ≡ record { class = OfType; tree = guide.now }) }
+    {
+        Side::whole_guide(alloc, guide.clone()?)
+    }
+
+    /// The erasure of the kind.
+    pub fn of_kind(alloc: Global, kind: &Kind) -> Result<Side, NoMemory>
+        requires { HasErasure kind.now }
+        ensures { IfOk result (λ s. s ≡ record { class = OfKind; tree = erased kind.now }) }
+    {
+        Side::whole_kind(alloc, kind.erase(alloc)?)
+    }
+
+    pub fn of_guide_kind(alloc: Global, kind: &GuideKind) -> Result<Side, NoMemory>
+        ensures { IfOk result (λ s. s ≡ record { class = OfKind; tree = kind.now }) }
+    {
+        Side::whole_kind(alloc, kind.clone()?)
+    }
+
+    fn whole_pure(alloc: Global, term: Pure) -> Result<Side, NoMemory>
+        ensures { IfOk result (λ s. s ≡ record { class = OfPure; tree = term }) }
+    {
+        term.known();
+        Ok(Side {
+            head: Root::Pure(term),
+            args: Vec::new(alloc),
+        })
+    }
+
+    fn whole_guide(alloc: Global, guide: Guide) -> Result<Side, NoMemory>
+        ensures { IfOk result (λ s. s ≡ record { class = OfType; tree = guide }) }
+    {
+        guide.known();
+        Ok(Side {
+            head: Root::Guide(guide),
+            args: Vec::new(alloc),
+        })
+    }
+
+    fn whole_kind(alloc: Global, kind: GuideKind) -> Result<Side, NoMemory>
+        ensures { IfOk result (λ s. s ≡ record { class = OfKind; tree = kind }) }
+    {
+        kind.known();
+        Ok(Side {
+            head: Root::Kind(kind),
+            args: Vec::new(alloc),
+        })
+    }
+
+    /// The item's number, where the side is a name.
+    pub fn name(&self) -> Option<u32>
+        ensures { result ≡ name_of self.now.tree }
+    {
+        if !self.args.is_empty() {
+            return None;
+        }
+        self.head.name()
+    }
+
+    pub fn class(&self) -> SideClass
+        ensures { result ≡ self.now.class }
+    {
+        match &self.head {
+            Root::Pure(_) => SideClass::OfPure,
+            Root::Guide(_) => SideClass::OfType,
+            Root::Kind(_) => SideClass::OfKind,
+        }
+    }
+
+    /// The pure term as one tree.
+    pub fn tree_pure(&self, alloc: Global) -> Result<Kept<Pure>, NoMemory>
+        requires { self.now.class ≡ OfPure }
+        ensures { IfOk result (λ k. IsKept self.now.tree k) }
+    {
+        match &self.head {
+            Root::Pure(head) => pure_spine(alloc, head, &self.args),
+            _ => unreachable!(),
+        }
+    }
+
+    /// The erased type as one tree.
+    pub fn tree_guide(&self, alloc: Global) -> Result<Kept<Guide>, NoMemory>
+        requires { self.now.class ≡ OfType }
+        ensures { IfOk result (λ k. IsKept self.now.tree k) }
+    {
+        match &self.head {
+            Root::Guide(head) => guide_spine(alloc, head, &self.args),
+            _ => unreachable!(),
+        }
+    }
+
+    /// The erased kind as one tree.
+    pub fn tree_kind(&self, _alloc: Global) -> Result<Kept<GuideKind>, NoMemory>
+        requires { self.now.class ≡ OfKind }
+        ensures { IfOk result (λ k. IsKept self.now.tree k) }
+    {
+        match &self.head {
+            Root::Kind(head) => kind_tree(head, &self.args),
+            _ => unreachable!(),
+        }
+    }
+}
