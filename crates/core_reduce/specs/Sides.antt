@@ -39,6 +39,10 @@ arg_function (a.Ap p) = of_pure
 arg_function (a.At p) = of_term
 arg_function (a.On p) = of_type
 
+abbrev pub arg_class : Arg → SideClass
+arg_class (a.On p) = OfType
+arg_class x = OfPure
+
 abbrev pub arg_tree : Arg → Tree
 arg_tree (a.Ap p) = p
 arg_tree (a.At p) = p

@@ -6,11 +6,15 @@
 #![tactic(auto)]
 
 mod budget;
+mod reduce;
 mod items;
 mod root;
 mod side;
 mod spine;
+mod value;
 
 pub use budget::Budget;
+pub use reduce::{Stop, head};
 pub use items::CheckedItems;
 pub use side::{Side, SideClass};
+pub use value::{Former, Value};

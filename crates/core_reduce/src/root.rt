@@ -33,6 +33,17 @@ impl Root {
         }
     }
 
+    pub(crate) fn depth(&self) -> u32
+        ensures is { result ≡ depth (root_tree self.now) }
+        ensures bounded { result ≤ 65535 }
+    {
+        match self {
+            Root::Pure(term) => term.depth(),
+            Root::Guide(guide) => guide.depth(),
+            Root::Kind(kind) => kind.depth(),
+        }
+    }
+
     /// The item's number, where the tree is a name.
     pub(crate) fn name(&self) -> Option<u32>
         ensures { result ≡ name_of (root_tree self.now) }

@@ -1,14 +1,15 @@
 ghost use Rattle.std.specs.Prelude.{◌≡◌, IfOk};
 ghost use Rattle.cdle_model.specs.Erasure.{HasErasure, erased};
-ghost use Rattle.core_reduce.specs.Sides.{IsKept, name_of};
+ghost use Rattle.core_reduce.specs.Sides.{IsKept, arg_class, arg_tree, name_of};
 ghost use Rattle.core_reduce.specs.declared.side.SideClass.TheVariants.{OfPure, OfType, OfKind};
 
 use crate::root::{Arg, Root};
-use crate::spine::{guide_spine, kind_tree, pure_spine};
+use crate::spine::{guide_spine, is_applied, kind_tree, pure_spine};
 use cdle_model::NoMemory;
 use core_tree::{Guide, GuideKind, Kept, Kind, Pure, Term, Ty};
 use std::alloc::Global;
 use std::marker::Model;
+use std::rc::Rc;
 
 /// What a side stands for: a pure term, an erased type or an erased kind.
 #[derive(Clone, Copy, Debug, PartialEq, Eq)]
@@ -22,12 +23,14 @@ pub enum SideClass {
 #[derive(Drop)]
 pub struct Side {
     pub(crate) head: Root,
-    // The outermost is the first.
-    pub(crate) args: Vec<Arg>,
+    // Those from the place `from` on, of which the outermost is the first.
+    pub(crate) args: Rc<Vec<Arg>>,
+    pub(crate) from: usize,
 }
 
 impl Model for Side {
     ghost use Rattle.cdle_model.specs.Classes.{IsOf};
+    ghost use Rattle.std.specs.Prelude.{◌≤◌, drop, length};
     ghost use Rattle.core_reduce.specs.Sides.{Sided, class_trees, root_class, root_tree, spine};
     ghost use Rattle.core_reduce.specs.Code.{coded_side};
 
@@ -35,9 +38,9 @@ impl Model for Side {
 
     ghost coded = { coded_side };
 
-    ghost view = { λ s. record { class = root_class s.head; tree = spine (root_tree s.head) s.args.items } };
+    ghost view = { λ s. record { class = root_class s.head; tree = spine (root_tree s.head) (drop s.from s.args.value.items) } };
 
-    ghost invariant = { λ s. IsOf (class_trees (root_class s.head)) (spine (root_tree s.head) s.args.items) };
+    ghost invariant = { λ s. (s.from ≤ length s.args.value.items) × IsOf (class_trees (root_class s.head)) (spine (root_tree s.head) (drop s.from s.args.value.items)) };
 }
 
 impl Side {
@@ -83,13 +86,25 @@ impl Side {
         Side::whole_kind(alloc, kind.clone()?)
     }
 
+    /// The argument as a side.
+    pub(crate) fn of_arg(alloc: Global, arg: &Arg) -> Result<Side, NoMemory>
+        ensures { IfOk result (λ s. s ≡ record { class = arg_class arg.now; tree = arg_tree arg.now }) }
+    {
+        match arg {
+            Arg::Ap(term) => Side::of_pure(alloc, term),
+            Arg::At(term) => Side::of_pure(alloc, term),
+            Arg::On(guide) => Side::of_guide(alloc, guide),
+        }
+    }
+
     fn whole_pure(alloc: Global, term: Pure) -> Result<Side, NoMemory>
         ensures { IfOk result (λ s. s ≡ record { class = OfPure; tree = term }) }
     {
         term.known();
         Ok(Side {
             head: Root::Pure(term),
-            args: Vec::new(alloc),
+            args: Rc::new(alloc, Vec::new(alloc))?,
+            from: 0,
         })
     }
 
@@ -99,7 +114,8 @@ impl Side {
         guide.known();
         Ok(Side {
             head: Root::Guide(guide),
-            args: Vec::new(alloc),
+            args: Rc::new(alloc, Vec::new(alloc))?,
+            from: 0,
         })
     }
 
@@ -109,7 +125,8 @@ impl Side {
         kind.known();
         Ok(Side {
             head: Root::Kind(kind),
-            args: Vec::new(alloc),
+            args: Rc::new(alloc, Vec::new(alloc))?,
+            from: 0,
         })
     }
 
@@ -117,7 +134,7 @@ impl Side {
     pub fn name(&self) -> Option<u32>
         ensures { result ≡ name_of self.now.tree }
     {
-        if !self.args.is_empty() {
+        if is_applied(&self.args, self.from) {
             return None;
         }
         self.head.name()
@@ -139,7 +156,7 @@ impl Side {
         ensures { IfOk result (λ k. IsKept self.now.tree k) }
     {
         match &self.head {
-            Root::Pure(head) => pure_spine(alloc, head, &self.args),
+            Root::Pure(head) => pure_spine(alloc, head, &self.args, self.from),
             _ => unreachable!(),
         }
     }
@@ -150,7 +167,7 @@ impl Side {
         ensures { IfOk result (λ k. IsKept self.now.tree k) }
     {
         match &self.head {
-            Root::Guide(head) => guide_spine(alloc, head, &self.args),
+            Root::Guide(head) => guide_spine(alloc, head, &self.args, self.from),
             _ => unreachable!(),
         }
     }
@@ -161,7 +178,7 @@ impl Side {
         ensures { IfOk result (λ k. IsKept self.now.tree k) }
     {
         match &self.head {
-            Root::Kind(head) => kind_tree(head, &self.args),
+            Root::Kind(head) => kind_tree(head, &self.args, self.from),
             _ => unreachable!(),
         }
     }

@@ -1,4 +1,4 @@
-ghost use Rattle.std.specs.Prelude.{◌≡◌, ◌<◌, IfOk};
+ghost use Rattle.std.specs.Prelude.{◌≡◌, ◌<◌, ◌≤◌, [], IfOk, IsFalse, IsTrue, drop, length};
 ghost use Rattle.cdle_model.specs.Trees.{of_pure, apply};
 ghost use Rattle.cdle_model.specs.Depth.{depth};
 ghost use Rattle.cdle_model.specs.Classes.{guide_kinds, guides, pure_terms, IsOf};
@@ -9,17 +9,27 @@ use cdle_model::NoMemory;
 use core_tree::{Guide, GuideKind, Kept, Pure};
 use std::alloc::Global;
 
+/// Whether there are arguments from the place `from` on.
+pub(crate) fn is_applied(args: &Vec<Arg>, from: usize) -> bool
+    requires { from ≤ length args.now.items }
+    ensures some { IsTrue result → from < length args.now.items }
+    ensures none { IsFalse result → drop from args.now.items ≡ [] }
+{
+    from < args.len()
+}
+
 /// A pure term with its arguments as one tree.
-pub(crate) fn pure_spine(alloc: Global, head: &Pure, args: &Vec<Arg>) -> Result<Kept<Pure>, NoMemory>
-    requires { IsOf pure_terms (spine head.now args.now.items) }
-    ensures { IfOk result (λ k. IsKept (spine head.now args.now.items) k) }
+pub(crate) fn pure_spine(alloc: Global, head: &Pure, args: &Vec<Arg>, from: usize) -> Result<Kept<Pure>, NoMemory>
+    requires within { from ≤ length args.now.items }
+    requires class { IsOf pure_terms (spine head.now (drop from args.now.items)) }
+    ensures { IfOk result (λ k. IsKept (spine head.now (drop from args.now.items)) k) }
 {
     if head.depth() > 4096 {
         return Ok(Kept::Deep);
     }
     let mut tree = head.clone()?;
     let mut k = args.len();
-    'build: while k > 0 {
+    'build: while k > from {
         k -= 1;
         let Arg::Ap(arg) = &args[k] else { unreachable!() };
         if tree.depth().max(arg.depth()) >= 4096 {
@@ -31,16 +41,17 @@ pub(crate) fn pure_spine(alloc: Global, head: &Pure, args: &Vec<Arg>) -> Result<
 }
 
 /// An erased type with its arguments as one tree.
-pub(crate) fn guide_spine(alloc: Global, head: &Guide, args: &Vec<Arg>) -> Result<Kept<Guide>, NoMemory>
-    requires { IsOf guides (spine head.now args.now.items) }
-    ensures { IfOk result (λ k. IsKept (spine head.now args.now.items) k) }
+pub(crate) fn guide_spine(alloc: Global, head: &Guide, args: &Vec<Arg>, from: usize) -> Result<Kept<Guide>, NoMemory>
+    requires within { from ≤ length args.now.items }
+    requires class { IsOf guides (spine head.now (drop from args.now.items)) }
+    ensures { IfOk result (λ k. IsKept (spine head.now (drop from args.now.items)) k) }
 {
     if head.depth() > 4096 {
         return Ok(Kept::Deep);
     }
     let mut tree = head.clone()?;
     let mut k = args.len();
-    'build: while k > 0 {
+    'build: while k > from {
         k -= 1;
         if tree.depth().max(args[k].depth()) >= 4096 {
             return Ok(Kept::Deep);
@@ -64,9 +75,9 @@ fn guide_applied(alloc: Global, head: &Guide, arg: &Arg) -> Result<Guide, NoMemo
 }
 
 /// An erased kind, which has no arguments.
-pub(crate) fn kind_tree(head: &GuideKind, args: &Vec<Arg>) -> Result<Kept<GuideKind>, NoMemory>
-    requires { IsOf guide_kinds (spine head.now args.now.items) }
-    ensures { IfOk result (λ k. IsKept (spine head.now args.now.items) k) }
+pub(crate) fn kind_tree(head: &GuideKind, args: &Vec<Arg>, from: usize) -> Result<Kept<GuideKind>, NoMemory>
+    requires { IsOf guide_kinds (spine head.now (drop from args.now.items)) }
+    ensures { IfOk result (λ k. IsKept (spine head.now (drop from args.now.items)) k) }
 {
     if head.depth() > 4096 {
         return Ok(Kept::Deep);
