@@ -6,3 +6,4 @@ pub mod Steps
 pub mod Placing
 pub mod Leads
 pub mod Going
+pub mod Raising

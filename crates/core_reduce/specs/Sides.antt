@@ -3,7 +3,7 @@ use Rattle.std.specs.Prelude.{◌≡◌, ℕ, ◌<◌, ◌≤◌, List, [], ◌�
 use Rattle.cdle_model.specs.declared.grammar.Sort.{Sort}
 use Rattle.cdle_model.specs.Trees.{Function, of_pure, of_term, of_type, Tree, name, apply}
 use Rattle.cdle_model.specs.Depth.{depth}
-use Rattle.cdle_model.specs.Classes.{TreeClass, pure_terms, guides, guide_kinds, within, Fits}
+use Rattle.cdle_model.specs.Classes.{TreeClass, pure_terms, guides, guide_kinds, within, Fits, IsOf}
 use Rattle.core_tree.specs.declared.faults.Kept.{Kept}
 use Rattle.core_tree.specs.declared.faults.Kept.TheVariants.{Whole, Deep}
 use Rattle.core_reduce.specs.declared.side.SideClass.{SideClass}
@@ -52,6 +52,12 @@ arg_tree (a.On p) = p
 abbrev pub spine : Tree → List Arg → Tree
 spine h [] = h
 spine h (x ∷ xs) = apply (arg_function x) (spine h xs) (arg_tree x)
+
+-- the arguments are pure terms, applied by `ap`
+abbrev pub ArePure : List Arg → Type 0
+ArePure [] = Unit {0}
+ArePure (a.Ap p ∷ xs) = IsOf pure_terms p × ArePure xs
+ArePure (x ∷ xs) = ⊥
 
 -- the item's number, where the tree is a name
 abbrev pub name_of : Tree → Option ℕ

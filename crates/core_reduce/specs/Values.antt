@@ -1,7 +1,8 @@
 -- Head forms: the trees for which values stand.
-use Rattle.std.specs.Prelude.{◌≡◌, List, [], ◌∷◌}
+use Rattle.std.specs.Prelude.{◌≡◌, ◌<◌, ◌≤◌, List, [], ◌∷◌, Option, Some, None}
 use Rattle.cdle_model.specs.Trees.{Function, of_pure, of_term, of_type, Tree, var, apply}
 use Rattle.cdle_model.specs.Forms.{star, kpi, kpit, pi, all, allt, guide_tlam, guide_xtlam, at_, on, iota, eq, fn}
+use Rattle.cdle_model.specs.Depth.{depth}
 use Rattle.core_reduce.specs.declared.side.SideClass.{SideClass}
 use Rattle.core_reduce.specs.declared.side.SideClass.TheVariants.{OfPure, OfType, OfKind}
 use Rattle.core_reduce.specs.declared.value.Former.{Former}
@@ -90,3 +91,8 @@ value_tree k (v.Former x ps) = former_tree x ps.items
 -- the value of the class stands for the tree
 abbrev pub StandsFor : SideClass → Value → Tree → Type 0
 StandsFor k v t = IsValueOf k v × (value_tree k v ≡ t)
+
+-- one more form may stand over the tree, or it is too deep for that
+abbrev pub IsPart : Tree → Option Tree → Type 0
+IsPart t (Some r) = (r ≡ t) × (depth t < 4096)
+IsPart t None = 4096 ≤ depth t

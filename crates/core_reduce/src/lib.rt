@@ -5,9 +5,11 @@
 //! those of the definitions' head reduction, and the units that it takes are at most as many. The crate stands on `core_tree` and `cdle_model`.
 #![tactic(auto)]
 
+mod applied;
 mod budget;
 mod reduce;
 mod items;
+mod reading;
 mod root;
 mod side;
 mod spine;

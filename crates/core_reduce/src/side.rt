@@ -1,10 +1,10 @@
 ghost use Rattle.std.specs.Prelude.{◌≡◌, IfOk};
 ghost use Rattle.cdle_model.specs.Erasure.{HasErasure, erased};
-ghost use Rattle.core_reduce.specs.Sides.{IsKept, arg_class, arg_tree, name_of};
+ghost use Rattle.core_reduce.specs.Sides.{ArePure, IsKept, arg_class, arg_tree, name_of, spine};
 ghost use Rattle.core_reduce.specs.declared.side.SideClass.TheVariants.{OfPure, OfType, OfKind};
 
 use crate::root::{Arg, Root};
-use crate::spine::{guide_spine, is_applied, kind_tree, pure_spine};
+use crate::spine::{flat_spine, guide_spine, is_applied, kind_tree, pure_spine};
 use cdle_model::NoMemory;
 use core_tree::{Guide, GuideKind, Kept, Kind, Pure, Term, Ty};
 use std::alloc::Global;
@@ -128,6 +128,30 @@ impl Side {
             args: Rc::new(alloc, Vec::new(alloc))?,
             from: 0,
         })
+    }
+
+    /// A pure term applied to pure terms, of which the outermost is the first.
+    pub(crate) fn applied(alloc: Global, head: Pure, args: Vec<Arg>) -> Result<Side, NoMemory>
+        requires { ArePure args.items }
+        ensures { IfOk result (λ s. s ≡ record { class = OfPure; tree = spine head args.items }) }
+    {
+        head.known();
+        Ok(Side {
+            head: Root::Pure(head),
+            args: Rc::new(alloc, args)?,
+            from: 0,
+        })
+    }
+
+    /// The pure term as one tree, of any depth that a tree can have.
+    pub(crate) fn flat_pure(&self, alloc: Global) -> Result<Pure, NoMemory>
+        requires { self.now.class ≡ OfPure }
+        ensures { IfOk result (λ t. t ≡ self.now.tree) }
+    {
+        match &self.head {
+            Root::Pure(head) => flat_spine(alloc, head, &self.args, self.from),
+            _ => unreachable!(),
+        }
     }
 
     /// The item's number, where the side is a name.

@@ -40,6 +40,25 @@ pub(crate) fn pure_spine(alloc: Global, head: &Pure, args: &Vec<Arg>, from: usiz
     Ok(Kept::Whole(tree))
 }
 
+/// The same of any depth that a tree can have.
+pub(crate) fn flat_spine(alloc: Global, head: &Pure, args: &Vec<Arg>, from: usize) -> Result<Pure, NoMemory>
+    requires within { from ≤ length args.now.items }
+    requires class { IsOf pure_terms (spine head.now (drop from args.now.items)) }
+    ensures { IfOk result (λ t. t ≡ spine head.now (drop from args.now.items)) }
+{
+    let mut tree = head.clone()?;
+    let mut k = args.len();
+    'build: while k > from {
+        k -= 1;
+        let Arg::Ap(arg) = &args[k] else { unreachable!() };
+        if tree.depth().max(arg.depth()) >= 65_535 {
+            return Err(NoMemory);
+        }
+        tree = Pure::ap(alloc, &tree, arg)?;
+    }
+    Ok(tree)
+}
+
 /// An erased type with its arguments as one tree.
 pub(crate) fn guide_spine(alloc: Global, head: &Guide, args: &Vec<Arg>, from: usize) -> Result<Kept<Guide>, NoMemory>
     requires within { from ≤ length args.now.items }
