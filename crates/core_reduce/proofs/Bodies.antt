@@ -1,9 +1,9 @@
 -- The items that were checked, place by place.
-use Rattle.std.proofs.Common.{◌≡◌, ℕ, zero, suc, ◌+◌, ◌<◌, ◌≤◌, List, [], ◌∷◌, ◌++◌, length, slice_get, get_or, Some, length-append, refl, sym, ◌∙◌, subst, ap, arith}
+use Rattle.std.proofs.Common.{◌≡◌, ℕ, zero, suc, ◌<◌, List, [], ◌∷◌, ◌++◌, length, slice_get, get_or, Some, length-append, refl, sym, ◌∙◌, subst, ap, arith}
 use Rattle.std.proofs.lemmas.List.{append_assoc, append-nil}
 use Rattle.cdle_model.specs.declared.grammar.Sort.{Sort}
-use Rattle.cdle_model.specs.Forms.{Written, def_item, type_item}
-use Rattle.cdle_model.specs.Classes.{IsOver, AreOver, AreItems, item_sort, item_sorts}
+use Rattle.cdle_model.specs.Forms.{Written}
+use Rattle.cdle_model.specs.Classes.{IsOver, AreOver, item_sort, item_sorts}
 use Rattle.cdle_model.specs.Derivation.{bodies, signature}
 use Rattle.cdle_model.specs.Fitting.{ItemHasErasures, HaveErasures, class_of}
 use Rattle.core_tree.specs.declared.items.CoreItem.{CoreItem}

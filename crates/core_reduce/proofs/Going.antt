@@ -1,14 +1,13 @@
 -- The way of head reduction from a tree to its head form.
-use Rattle.std.proofs.Common.{◌≡◌, ◌⊎◌, inl, inr, ℕ, ◌+◌, ◌≤◌, List, length, Ok, Err, sym, ◌∙◌, subst, refl, arith}
+use Rattle.std.proofs.Common.{◌≡◌, inl, inr, ℕ, ◌+◌, ◌≤◌, List, Ok, Err, sym, ◌∙◌, subst, refl, arith}
 use Rattle.std.specs.declared.result.Result.{Result}
 use Rattle.cdle_model.specs.declared.grammar.Sort.{Sort}
 use Rattle.cdle_model.specs.Trees.{Tree}
 use Rattle.cdle_model.specs.Depth.{depth}
 use Rattle.cdle_model.specs.Steps.{Step}
-use Rattle.cdle_model.specs.Classes.{TreeClass, within, Fits}
 use Rattle.cdle_model.specs.Fitting.{BodiesFit, IsErased}
 use Rattle.cdle_model.specs.Machine.{answered, spent, run}
-use Rattle.cdle_model.specs.HeadForms.{Halt, deep, HeadStep, none, to, blocked, head_step, at, fallen, HeadAnswer, value, no_value, head_move, head_form}
+use Rattle.cdle_model.specs.HeadForms.{deep, HeadStep, none, to, blocked, head_step, at, fallen, value, no_value, head_move, head_form}
 use Rattle.cdle_model.proofs.Runs.{stops, goes}
 use Rattle.cdle_model.proofs.SameJoined.{Moves, move-moves}
 use Rattle.cdle_model.proofs.ClassKept.{step-fits}
@@ -21,7 +20,7 @@ use Rattle.core_reduce.specs.declared.reduce.Stop.{Stop}
 use Rattle.core_reduce.specs.declared.reduce.Stop.TheVariants.{Spent, TooDeep, NoMemory}
 use Rattle.core_reduce.specs.Sides.{IsPlaced, class_trees, root_class, root_tree, spine}
 use Rattle.core_reduce.specs.Values.{StandsFor}
-use Rattle.core_reduce.specs.Heads.{IsHeadForm, MeetsHead, HeadSo, MeetsStep, Unwound, Stepped}
+use Rattle.core_reduce.specs.Heads.{IsHeadForm, MeetsHead, HeadSo, MeetsStep}
 use Rattle.core_reduce.proofs.Leads.{Leads, leads_none, leads_one, leads_on, one_head}
 
 pub erased_class : (k : SideClass) → IsErased (class_trees k)

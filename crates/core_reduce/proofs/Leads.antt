@@ -6,7 +6,6 @@ use Rattle.cdle_model.specs.HeadForms.{HeadAnswer, head_form}
 use Rattle.cdle_model.proofs.Runs.{stops, goes}
 use Rattle.cdle_model.proofs.LargerBudget.{head_form_more}
 
-
 -- from s, k units lead to t
 pub record Leads {A S : Type 0} (move : S → Move A S) (s : S) (k : ℕ) (t : S) : Type 0 where
   pub runs : (n m : ℕ) → n ≡ k + m → run move n s ≡ run move m t

@@ -7,3 +7,4 @@ pub mod Placing
 pub mod Leads
 pub mod Going
 pub mod Raising
+pub mod Variables

@@ -1,10 +1,10 @@
 -- What a caller of a step knows of the head's parts, from the place of the whole.
-use Rattle.std.proofs.Common.{◌≡◌, ℕ, zero, suc, ◌<◌, ◌≤◌, List, [], ◌∷◌, ◌++◌, length, get_or, drop, slice_get, Option, Some, None, sym, ◌∙◌, subst, refl, ap, arith}
+use Rattle.std.proofs.Common.{◌≡◌, ℕ, zero, suc, ◌<◌, List, [], ◌∷◌, ◌++◌, length, get_or, drop, slice_get, Some, sym, ◌∙◌, subst, refl, ap, arith}
 use Rattle.cdle_model.specs.declared.grammar.Sort.{Sort}
 use Rattle.cdle_model.specs.declared.grammar.Sort.TheVariants.{OfTerm, OfType as OfTypes}
 use Rattle.cdle_model.specs.Trees.{Function, of_pure, of_term, of_type, Tree, name, fun, IsBelow}
 use Rattle.cdle_model.specs.Forms.{Written, fn, guide_tlam, guide_xtlam}
-use Rattle.cdle_model.specs.Classes.{pure_terms, guides, within, item_sort, item_sorts, Fits, UsedAs}
+use Rattle.cdle_model.specs.Classes.{pure_terms, guides, within, item_sorts, Fits, UsedAs}
 use Rattle.cdle_model.specs.Fitting.{class_of}
 use Rattle.cdle_model.proofs.ScopedTrees.{fits-inner}
 use Rattle.cdle_model.proofs.Scoping.{scoped_used}

@@ -1,9 +1,9 @@
 -- Trees with their arguments.
 use Rattle.std.proofs.Common.{◌≡◌, ℕ, zero, suc, ◌+◌, ◌<◌, ◌≤◌, max, List, [], ◌∷◌, ◌++◌, length, get_or, drop, None, sym, ◌∙◌, subst, refl, ap, arith}
 use Rattle.std.proofs.Math.Seq.{drop-cons}
-use Rattle.cdle_model.specs.Trees.{of_pure, of_term, of_type, Tree, apply}
+use Rattle.cdle_model.specs.Trees.{of_pure, Tree, apply}
 use Rattle.cdle_model.specs.Depth.{depth}
-use Rattle.cdle_model.specs.Classes.{TreeClass, pure_terms, guides, guide_kinds, Scope, Fits, IsOf}
+use Rattle.cdle_model.specs.Classes.{pure_terms, guides, guide_kinds, Scope, Fits}
 use Rattle.core_reduce.specs.declared.root.Arg.{Arg}
 use Rattle.core_reduce.specs.declared.root.Arg.TheVariants.{Ap, At, On}
 use Rattle.core_reduce.specs.declared.side.SideClass.{SideClass}

@@ -1,9 +1,9 @@
 -- One step at the head of a tree with arguments.
-use Rattle.std.proofs.Common.{◌≡◌, ◌⊎◌, inl, inr, ℕ, zero, suc, ◌+◌, ◌<◌, ◌≤◌, Bool, true, false, cond, ltb, List, [], ◌∷◌, ◌++◌, Option, Some, None, Ok, Err, slice_get, sym, ◌∙◌, subst, refl, ap, arith}
+use Rattle.std.proofs.Common.{◌≡◌, inl, inr, ℕ, zero, suc, ◌+◌, ◌<◌, ◌≤◌, Bool, true, false, cond, ltb, List, [], ◌∷◌, ◌++◌, Some, Ok, Err, slice_get, sym, ◌∙◌, subst, refl, ap, arith}
 use Rattle.std.proofs.lemmas.Bool.{lt-ltb, le-ltb}
 use Rattle.cdle_model.specs.Trees.{Function, of_pure, of_term, of_type, Tree, var, name, leaf, unary, fun, apply, binary, bind, put}
 use Rattle.cdle_model.specs.Depth.{depth}
-use Rattle.cdle_model.specs.Classes.{Scope, pure_terms, guides, guide_kinds, Fits}
+use Rattle.cdle_model.specs.Classes.{Scope, Fits}
 use Rattle.cdle_model.specs.HeadForms.{deep, Halt, deepest, HeadStep, none, to, blocked, contraction, if_same, ill_applied, head_step}
 use Rattle.core_tree.specs.declared.stop.PutStop.{PutStop}
 use Rattle.core_tree.specs.declared.stop.PutStop.TheVariants as z
@@ -13,7 +13,7 @@ use Rattle.core_reduce.specs.declared.root.Arg.{Arg}
 use Rattle.core_reduce.specs.declared.side.SideClass.{SideClass}
 use Rattle.core_reduce.specs.declared.side.SideClass.TheVariants.{OfPure, OfType, OfKind}
 use Rattle.core_reduce.specs.Sides.{class_trees, root_class, root_tree, arg_function, arg_tree, spine}
-use Rattle.core_reduce.specs.Heads.{innermost, IsStill, Unwound, Stepped, Halts, MeetsStep, put_stop_of}
+use Rattle.core_reduce.specs.Heads.{innermost, IsStill, Halts, MeetsStep, put_stop_of}
 use Rattle.core_reduce.proofs.Spines.{spine_push, spine_head}
 use Rattle.core_reduce.proofs.Values.{function_alone}
 
@@ -134,21 +134,27 @@ module _ (s : List Tree) where
 
   pub app_unwinds : (k : SideClass) (c : Function) (p q : Tree) (xs : List Arg) (x : Arg) (units : ℕ) (r : Root) → arg_function x ≡ c → arg_tree x ≡ q → root_tree r ≡ p → root_class r ≡ k
       → MeetsStep s k (apply c p q) xs units (xs ++ x ∷ []) units (Ok r)
-  app_unwinds k c p q xs x units r e f g h = (h, inl (record {
-    is = rw (g, ← e, ← f) (spine_push p xs x);
-    units = refl;
-    smaller = rw g (omega arith);
-  }))
+  app_unwinds k c p q xs x units r e f g h = (
+    h,
+    inl (record {
+      is = rw (g, ← e, ← f) (spine_push p xs x);
+      units = refl;
+      smaller = rw g (omega arith);
+    }),
+  )
 
   -- ---- an unfolding
 
   pub unfolds : (k : SideClass) (n : ℕ) (xs : List Arg) (units left : ℕ) (u : Tree) (r : Root) → slice_get s n ≡ Some u → units ≡ left + 1 → depth u ≤ 65535 → root_class r ≡ k → root_tree r ≡ u
       → MeetsStep s k (name n) xs units xs left (Ok r)
-  unfolds k n xs units left u r e t l h g = (h, inr (record {
-    is = rw g (spine_to (name n) u xs (rw e refl));
-    units = t;
-    low = rw g l;
-  }))
+  unfolds k n xs units left u r e t l h g = (
+    h,
+    inr (record {
+      is = rw g (spine_to (name n) u xs (rw e refl));
+      units = t;
+      low = rw g l;
+    }),
+  )
 
   pub name_halts : (n : ℕ) (xs : List Arg) (units : ℕ) (u : Tree) → slice_get s n ≡ Some u → units ≡ 0 → Halts s (name n) xs units
   name_halts n xs units u e t = record {
@@ -175,11 +181,14 @@ module _ (s : List Tree) where
 
     pub redex_steps : (k : SideClass) (units left : ℕ) (r : Root) → root_class r ≡ k → units ≡ left + 1 → (root_tree r ≡ put 0 (arg_tree x) b) × (depth (put 0 (arg_tree x) b) ≤ 4096)
         → MeetsStep s k (fun (arg_function x) b) (xs ++ x ∷ []) units xs left (Ok r)
-    redex_steps k units left r h t g = (h, inr (record {
-      is = rw (g.0) (redex ∙ spine_to _ (put 0 (arg_tree x) b) xs (applied_step ∙ contraction_low (put 0 (arg_tree x) b) g.1));
-      units = t;
-      low = (let l = g.1 in rw (g.0) (omega arith));
-    }))
+    redex_steps k units left r h t g = (
+      h,
+      inr (record {
+        is = rw (g.0) (redex ∙ spine_to _ (put 0 (arg_tree x) b) xs (applied_step ∙ contraction_low (put 0 (arg_tree x) b) g.1));
+        units = t;
+        low = (let l = g.1 in rw (g.0) (omega arith));
+      }),
+    )
 
     pub redex_stops : (k : SideClass) (units left : ℕ) (e : PutStop) → units ≡ left + 1 → PutGives (put 0 (arg_tree x) b) (Err e)
         → MeetsStep s k (fun (arg_function x) b) (xs ++ x ∷ []) units xs left (Err (put_stop_of e))

@@ -1,9 +1,8 @@
 -- Head forms as values.
-use Rattle.std.proofs.Common.{◌≡◌, ℕ, zero, suc, ◌+◌, ◌<◌, ◌≤◌, List, [], ◌∷◌, ◌++◌, length, get_or, drop, Option, Some, None, sym, ◌∙◌, subst, refl, ap, arith}
+use Rattle.std.proofs.Common.{◌≡◌, ℕ, zero, suc, ◌<◌, ◌≤◌, List, [], ◌∷◌, ◌++◌, length, get_or, drop, Option, sym, ◌∙◌, subst, refl, ap, arith}
 use Rattle.std.proofs.Math.Seq.{drop-length}
-use Rattle.std.specs.declared.vec.Vec.{Vec}
-use Rattle.cdle_model.specs.Trees.{Function, of_pure, of_term, of_type, Tree, var, name, fun, apply}
-use Rattle.cdle_model.specs.Classes.{TreeClass, pure_terms, guides, guide_kinds, anything, Scope, Fits, IsOf}
+use Rattle.cdle_model.specs.Trees.{of_pure, Tree, var, fun, apply}
+use Rattle.cdle_model.specs.Classes.{pure_terms, guides, guide_kinds, anything, Scope, Fits, IsOf}
 use Rattle.core_tree.specs.declared.guide.GuideForm.{GuideForm}
 use Rattle.core_tree.specs.declared.guide.GuideForm.TheVariants as g
 use Rattle.core_tree.specs.Forms.{guide_tree}
@@ -56,8 +55,10 @@ sides_more i xs from k less sides x s h e l g q = record {
       let (u, w) = argument_is anything c x (argument_fits anything c (var i) xs from less x f l (omega arith) g) in
       let t : spine (var i) (drop less xs) ≡ apply (arg_function x) (spine (var i) (drop (suc less) xs)) (arg_tree x) = spine_at (var i) xs less x (omega arith) g in
       let r : applied_to c (var i) sides ≡ spine (var i) (drop (suc less) xs) = subst (λ z. applied_to c (var i) sides ≡ spine (var i) (drop z xs)) e n in
-      rw q (arguments_push c sides (record { class = arg_class x; tree = arg_tree x }) m u,
-      applied_push c (var i) sides (record { class = arg_class x; tree = arg_tree x }) ∙ (rw (w, r) (sym t)));
+      rw q (
+        arguments_push c sides (record { class = arg_class x; tree = arg_tree x }) m u,
+        applied_push c (var i) sides (record { class = arg_class x; tree = arg_tree x }) ∙ (rw (w, r) (sym t)),
+      );
 }
 
 pub sides_end : (i : ℕ) (xs : List Arg) (from k : ℕ) (sides : List Sided) → SidesSo i xs from k sides → k ≤ from

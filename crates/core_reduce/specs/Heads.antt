@@ -1,7 +1,7 @@
 -- What the answers of head reduction say, by the definitions' head forms.
-use Rattle.std.specs.Prelude.{◌≡◌, ◌⊎◌, ℕ, suc, ◌+◌, ◌<◌, ◌≤◌, List, [], ◌∷◌, Option, Some, None, Result, Ok, Err}
+use Rattle.std.specs.Prelude.{◌≡◌, ◌⊎◌, ℕ, suc, ◌+◌, ◌≤◌, List, [], ◌∷◌, Option, Some, None, Result, Ok, Err}
 use Rattle.std.specs.Borrow.{Bor}
-use Rattle.cdle_model.specs.Trees.{Tree, var, name, leaf, unary, fun, apply, binary, bind}
+use Rattle.cdle_model.specs.Trees.{Tree, var, name, fun, apply}
 use Rattle.cdle_model.specs.Depth.{depth}
 use Rattle.cdle_model.specs.Machine.{answered, spent}
 use Rattle.cdle_model.specs.HeadForms.{deep, none, to, blocked, head_step, HeadAnswer, value, no_value, head_form}

@@ -7,16 +7,16 @@
 
 mod applied;
 mod budget;
-mod reduce;
 mod items;
 mod reading;
+mod reduce;
 mod root;
 mod side;
 mod spine;
 mod value;
 
 pub use budget::Budget;
-pub use reduce::{Stop, head};
 pub use items::CheckedItems;
+pub use reduce::{Stop, head};
 pub use side::{Side, SideClass};
 pub use value::{Former, Value};

@@ -53,7 +53,9 @@ fn function(alloc: Global, body: &Side) -> Result<Kept<Pure>, NoMemory>
     requires { body.now.class ≡ OfPure }
     ensures { IfOk result (λ k. IsKept (fn body.now.tree) k) }
 {
-    let Some(body) = pure_part(alloc, body)? else { return Ok(Kept::Deep) };
+    let Some(body) = pure_part(alloc, body)? else {
+        return Ok(Kept::Deep)
+    };
     Ok(Kept::Whole(Pure::function(alloc, &body)?))
 }
 
@@ -62,7 +64,9 @@ fn pure_part(alloc: Global, part: &Side) -> Result<Option<Pure>, NoMemory>
     requires { part.now.class ≡ OfPure }
     ensures { IfOk result (λ o. IsPart part.now.tree o) }
 {
-    let Kept::Whole(tree) = part.tree_pure(alloc)? else { return Ok(None) };
+    let Kept::Whole(tree) = part.tree_pure(alloc)? else {
+        return Ok(None)
+    };
     if tree.depth() >= 4096 {
         return Ok(None);
     }
@@ -73,7 +77,9 @@ fn guide_part(alloc: Global, part: &Side) -> Result<Option<Guide>, NoMemory>
     requires { part.now.class ≡ OfType }
     ensures { IfOk result (λ o. IsPart part.now.tree o) }
 {
-    let Kept::Whole(tree) = part.tree_guide(alloc)? else { return Ok(None) };
+    let Kept::Whole(tree) = part.tree_guide(alloc)? else {
+        return Ok(None)
+    };
     if tree.depth() >= 4096 {
         return Ok(None);
     }
@@ -84,7 +90,9 @@ fn kind_part(alloc: Global, part: &Side) -> Result<Option<GuideKind>, NoMemory>
     requires { part.now.class ≡ OfKind }
     ensures { IfOk result (λ o. IsPart part.now.tree o) }
 {
-    let Kept::Whole(tree) = part.tree_kind(alloc)? else { return Ok(None) };
+    let Kept::Whole(tree) = part.tree_kind(alloc)? else {
+        return Ok(None)
+    };
     if tree.depth() >= 4096 {
         return Ok(None);
     }
@@ -98,7 +106,9 @@ fn pure_variable(alloc: Global, index: u32, args: &Vec<Side>) -> Result<Kept<Pur
     let mut tree = Pure::var(alloc, index)?;
     let mut k = 0;
     'build: while k < args.len() {
-        let Some(arg) = pure_part(alloc, &args[k])? else { return Ok(Kept::Deep) };
+        let Some(arg) = pure_part(alloc, &args[k])? else {
+            return Ok(Kept::Deep)
+        };
         if tree.depth() >= 4096 {
             return Ok(Kept::Deep);
         }
@@ -133,11 +143,15 @@ fn guide_applied(alloc: Global, head: &Guide, arg: &Side) -> Result<Kept<Guide>,
     }
     match arg.class() {
         SideClass::OfPure => {
-            let Some(arg) = pure_part(alloc, arg)? else { return Ok(Kept::Deep) };
+            let Some(arg) = pure_part(alloc, arg)? else {
+                return Ok(Kept::Deep)
+            };
             Ok(Kept::Whole(Guide::at(alloc, head, &arg)?))
         }
         SideClass::OfType => {
-            let Some(arg) = guide_part(alloc, arg)? else { return Ok(Kept::Deep) };
+            let Some(arg) = guide_part(alloc, arg)? else {
+                return Ok(Kept::Deep)
+            };
             Ok(Kept::Whole(Guide::on(alloc, head, &arg)?))
         }
         SideClass::OfKind => unreachable!(),
@@ -149,8 +163,12 @@ fn pi(alloc: Global, left: &Side, right: &Side) -> Result<Kept<Guide>, NoMemory>
     requires right { right.now.class ≡ OfType }
     ensures { IfOk result (λ k. IsKept (pi left.now.tree right.now.tree) k) }
 {
-    let Some(left) = guide_part(alloc, left)? else { return Ok(Kept::Deep) };
-    let Some(right) = guide_part(alloc, right)? else { return Ok(Kept::Deep) };
+    let Some(left) = guide_part(alloc, left)? else {
+        return Ok(Kept::Deep)
+    };
+    let Some(right) = guide_part(alloc, right)? else {
+        return Ok(Kept::Deep)
+    };
     Ok(Kept::Whole(Guide::pi(alloc, &left, &right)?))
 }
 
@@ -159,8 +177,12 @@ fn all(alloc: Global, left: &Side, right: &Side) -> Result<Kept<Guide>, NoMemory
     requires right { right.now.class ≡ OfType }
     ensures { IfOk result (λ k. IsKept (all left.now.tree right.now.tree) k) }
 {
-    let Some(left) = guide_part(alloc, left)? else { return Ok(Kept::Deep) };
-    let Some(right) = guide_part(alloc, right)? else { return Ok(Kept::Deep) };
+    let Some(left) = guide_part(alloc, left)? else {
+        return Ok(Kept::Deep)
+    };
+    let Some(right) = guide_part(alloc, right)? else {
+        return Ok(Kept::Deep)
+    };
     Ok(Kept::Whole(Guide::all(alloc, &left, &right)?))
 }
 
@@ -169,8 +191,12 @@ fn allt(alloc: Global, left: &Side, right: &Side) -> Result<Kept<Guide>, NoMemor
     requires right { right.now.class ≡ OfType }
     ensures { IfOk result (λ k. IsKept (allt left.now.tree right.now.tree) k) }
 {
-    let Some(left) = kind_part(alloc, left)? else { return Ok(Kept::Deep) };
-    let Some(right) = guide_part(alloc, right)? else { return Ok(Kept::Deep) };
+    let Some(left) = kind_part(alloc, left)? else {
+        return Ok(Kept::Deep)
+    };
+    let Some(right) = guide_part(alloc, right)? else {
+        return Ok(Kept::Deep)
+    };
     Ok(Kept::Whole(Guide::allt(alloc, &left, &right)?))
 }
 
@@ -179,8 +205,12 @@ fn at(alloc: Global, left: &Side, right: &Side) -> Result<Kept<Guide>, NoMemory>
     requires right { right.now.class ≡ OfPure }
     ensures { IfOk result (λ k. IsKept (at_ left.now.tree right.now.tree) k) }
 {
-    let Some(left) = guide_part(alloc, left)? else { return Ok(Kept::Deep) };
-    let Some(right) = pure_part(alloc, right)? else { return Ok(Kept::Deep) };
+    let Some(left) = guide_part(alloc, left)? else {
+        return Ok(Kept::Deep)
+    };
+    let Some(right) = pure_part(alloc, right)? else {
+        return Ok(Kept::Deep)
+    };
     Ok(Kept::Whole(Guide::at(alloc, &left, &right)?))
 }
 
@@ -189,8 +219,12 @@ fn on(alloc: Global, left: &Side, right: &Side) -> Result<Kept<Guide>, NoMemory>
     requires right { right.now.class ≡ OfType }
     ensures { IfOk result (λ k. IsKept (on left.now.tree right.now.tree) k) }
 {
-    let Some(left) = guide_part(alloc, left)? else { return Ok(Kept::Deep) };
-    let Some(right) = guide_part(alloc, right)? else { return Ok(Kept::Deep) };
+    let Some(left) = guide_part(alloc, left)? else {
+        return Ok(Kept::Deep)
+    };
+    let Some(right) = guide_part(alloc, right)? else {
+        return Ok(Kept::Deep)
+    };
     Ok(Kept::Whole(Guide::on(alloc, &left, &right)?))
 }
 
@@ -199,8 +233,12 @@ fn iota(alloc: Global, left: &Side, right: &Side) -> Result<Kept<Guide>, NoMemor
     requires right { right.now.class ≡ OfType }
     ensures { IfOk result (λ k. IsKept (iota left.now.tree right.now.tree) k) }
 {
-    let Some(left) = guide_part(alloc, left)? else { return Ok(Kept::Deep) };
-    let Some(right) = guide_part(alloc, right)? else { return Ok(Kept::Deep) };
+    let Some(left) = guide_part(alloc, left)? else {
+        return Ok(Kept::Deep)
+    };
+    let Some(right) = guide_part(alloc, right)? else {
+        return Ok(Kept::Deep)
+    };
     Ok(Kept::Whole(Guide::iota(alloc, &left, &right)?))
 }
 
@@ -209,8 +247,12 @@ fn eq(alloc: Global, left: &Side, right: &Side) -> Result<Kept<Guide>, NoMemory>
     requires right { right.now.class ≡ OfPure }
     ensures { IfOk result (λ k. IsKept (eq left.now.tree right.now.tree) k) }
 {
-    let Some(left) = pure_part(alloc, left)? else { return Ok(Kept::Deep) };
-    let Some(right) = pure_part(alloc, right)? else { return Ok(Kept::Deep) };
+    let Some(left) = pure_part(alloc, left)? else {
+        return Ok(Kept::Deep)
+    };
+    let Some(right) = pure_part(alloc, right)? else {
+        return Ok(Kept::Deep)
+    };
     Ok(Kept::Whole(Guide::eq(alloc, &left, &right)?))
 }
 
@@ -219,8 +261,12 @@ fn kpi(alloc: Global, left: &Side, right: &Side) -> Result<Kept<GuideKind>, NoMe
     requires right { right.now.class ≡ OfKind }
     ensures { IfOk result (λ k. IsKept (kpi left.now.tree right.now.tree) k) }
 {
-    let Some(left) = guide_part(alloc, left)? else { return Ok(Kept::Deep) };
-    let Some(right) = kind_part(alloc, right)? else { return Ok(Kept::Deep) };
+    let Some(left) = guide_part(alloc, left)? else {
+        return Ok(Kept::Deep)
+    };
+    let Some(right) = kind_part(alloc, right)? else {
+        return Ok(Kept::Deep)
+    };
     Ok(Kept::Whole(GuideKind::kpi(alloc, &left, &right)?))
 }
 
@@ -229,8 +275,12 @@ fn kpit(alloc: Global, left: &Side, right: &Side) -> Result<Kept<GuideKind>, NoM
     requires right { right.now.class ≡ OfKind }
     ensures { IfOk result (λ k. IsKept (kpit left.now.tree right.now.tree) k) }
 {
-    let Some(left) = kind_part(alloc, left)? else { return Ok(Kept::Deep) };
-    let Some(right) = kind_part(alloc, right)? else { return Ok(Kept::Deep) };
+    let Some(left) = kind_part(alloc, left)? else {
+        return Ok(Kept::Deep)
+    };
+    let Some(right) = kind_part(alloc, right)? else {
+        return Ok(Kept::Deep)
+    };
     Ok(Kept::Whole(GuideKind::kpit(alloc, &left, &right)?))
 }
 
@@ -238,7 +288,9 @@ fn tlam(alloc: Global, part: &Side) -> Result<Kept<Guide>, NoMemory>
     requires { part.now.class ≡ OfType }
     ensures { IfOk result (λ k. IsKept (guide_tlam part.now.tree) k) }
 {
-    let Some(part) = guide_part(alloc, part)? else { return Ok(Kept::Deep) };
+    let Some(part) = guide_part(alloc, part)? else {
+        return Ok(Kept::Deep)
+    };
     Ok(Kept::Whole(Guide::tlam(alloc, &part)?))
 }
 
@@ -246,7 +298,9 @@ fn xtlam(alloc: Global, part: &Side) -> Result<Kept<Guide>, NoMemory>
     requires { part.now.class ≡ OfType }
     ensures { IfOk result (λ k. IsKept (guide_xtlam part.now.tree) k) }
 {
-    let Some(part) = guide_part(alloc, part)? else { return Ok(Kept::Deep) };
+    let Some(part) = guide_part(alloc, part)? else {
+        return Ok(Kept::Deep)
+    };
     Ok(Kept::Whole(Guide::xtlam(alloc, &part)?))
 }
 
@@ -271,7 +325,11 @@ fn guide_former(alloc: Global, former: Former, parts: &Vec<Side>) -> Result<Kept
     }
 }
 
-fn kind_former(alloc: Global, former: Former, parts: &Vec<Side>) -> Result<Kept<GuideKind>, NoMemory>
+fn kind_former(
+    alloc: Global,
+    former: Former,
+    parts: &Vec<Side>,
+) -> Result<Kept<GuideKind>, NoMemory>
     requires class { former_class former ≡ OfKind }
     requires parts { classes parts.now.items ≡ former_parts former }
     ensures { IfOk result (λ k. IsKept (former_tree former parts.now.items) k) }

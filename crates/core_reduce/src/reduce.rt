@@ -264,7 +264,9 @@ fn pop(args: &mut Vec<Arg>) -> Arg
     requires { args.old.items ≡ [] → ⊥ }
     ensures { args.old.items ≡ args.new.items ++ result ∷ [] }
 {
-    let Some(arg) = args.pop() else { unreachable!() };
+    let Some(arg) = args.pop() else {
+        unreachable!()
+    };
     arg
 }
 
@@ -283,12 +285,7 @@ fn unfold(items: &CheckedItems, item: u32, budget: &mut Budget) -> Result<Root, 
 }
 
 // The body of a function with the argument put for its variable, with one unit.
-fn contract_ap(
-    alloc: Global,
-    body: &Pure,
-    arg: &Pure,
-    budget: &mut Budget,
-) -> Result<Root, Stop>
+fn contract_ap(alloc: Global, body: &Pure, arg: &Pure, budget: &mut Budget) -> Result<Root, Stop>
     requires used { UsedAs OfTerm 0 pure_terms body.now }
     requires below { IsBelow 4290000000 arg.now }
     ensures step { (s : List Tree) (xs : List Arg) → MeetsStep s OfPure (fn body.now) (xs ++ Ap arg.now ∷ []) budget.old.left xs budget.new.left result }
@@ -303,12 +300,7 @@ fn contract_ap(
     }
 }
 
-fn contract_at(
-    alloc: Global,
-    body: &Guide,
-    arg: &Pure,
-    budget: &mut Budget,
-) -> Result<Root, Stop>
+fn contract_at(alloc: Global, body: &Guide, arg: &Pure, budget: &mut Budget) -> Result<Root, Stop>
     requires used { UsedAs OfTerm 0 guides body.now }
     requires below { IsBelow 4290000000 arg.now }
     ensures step { (s : List Tree) (xs : List Arg) → MeetsStep s OfType (guide_tlam body.now) (xs ++ At arg.now ∷ []) budget.old.left xs budget.new.left result }
@@ -323,12 +315,7 @@ fn contract_at(
     }
 }
 
-fn contract_on(
-    alloc: Global,
-    body: &Guide,
-    arg: &Guide,
-    budget: &mut Budget,
-) -> Result<Root, Stop>
+fn contract_on(alloc: Global, body: &Guide, arg: &Guide, budget: &mut Budget) -> Result<Root, Stop>
     requires used { UsedAs OfTypes 0 guides body.now }
     requires below { IsBelow 4290000000 arg.now }
     ensures step { (s : List Tree) (xs : List Arg) → MeetsStep s OfType (guide_xtlam body.now) (xs ++ On arg.now ∷ []) budget.old.left xs budget.new.left result }

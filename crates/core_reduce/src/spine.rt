@@ -19,7 +19,12 @@ pub(crate) fn is_applied(args: &Vec<Arg>, from: usize) -> bool
 }
 
 /// A pure term with its arguments as one tree.
-pub(crate) fn pure_spine(alloc: Global, head: &Pure, args: &Vec<Arg>, from: usize) -> Result<Kept<Pure>, NoMemory>
+pub(crate) fn pure_spine(
+    alloc: Global,
+    head: &Pure,
+    args: &Vec<Arg>,
+    from: usize,
+) -> Result<Kept<Pure>, NoMemory>
     requires within { from ≤ length args.now.items }
     requires class { IsOf pure_terms (spine head.now (drop from args.now.items)) }
     ensures { IfOk result (λ k. IsKept (spine head.now (drop from args.now.items)) k) }
@@ -31,7 +36,9 @@ pub(crate) fn pure_spine(alloc: Global, head: &Pure, args: &Vec<Arg>, from: usiz
     let mut k = args.len();
     'build: while k > from {
         k -= 1;
-        let Arg::Ap(arg) = &args[k] else { unreachable!() };
+        let Arg::Ap(arg) = &args[k] else {
+            unreachable!()
+        };
         if tree.depth().max(arg.depth()) >= 4096 {
             return Ok(Kept::Deep);
         }
@@ -41,7 +48,12 @@ pub(crate) fn pure_spine(alloc: Global, head: &Pure, args: &Vec<Arg>, from: usiz
 }
 
 /// The same of any depth that a tree can have.
-pub(crate) fn flat_spine(alloc: Global, head: &Pure, args: &Vec<Arg>, from: usize) -> Result<Pure, NoMemory>
+pub(crate) fn flat_spine(
+    alloc: Global,
+    head: &Pure,
+    args: &Vec<Arg>,
+    from: usize,
+) -> Result<Pure, NoMemory>
     requires within { from ≤ length args.now.items }
     requires class { IsOf pure_terms (spine head.now (drop from args.now.items)) }
     ensures { IfOk result (λ t. t ≡ spine head.now (drop from args.now.items)) }
@@ -50,7 +62,9 @@ pub(crate) fn flat_spine(alloc: Global, head: &Pure, args: &Vec<Arg>, from: usiz
     let mut k = args.len();
     'build: while k > from {
         k -= 1;
-        let Arg::Ap(arg) = &args[k] else { unreachable!() };
+        let Arg::Ap(arg) = &args[k] else {
+            unreachable!()
+        };
         if tree.depth().max(arg.depth()) >= 65_535 {
             return Err(NoMemory);
         }
@@ -60,7 +74,12 @@ pub(crate) fn flat_spine(alloc: Global, head: &Pure, args: &Vec<Arg>, from: usiz
 }
 
 /// An erased type with its arguments as one tree.
-pub(crate) fn guide_spine(alloc: Global, head: &Guide, args: &Vec<Arg>, from: usize) -> Result<Kept<Guide>, NoMemory>
+pub(crate) fn guide_spine(
+    alloc: Global,
+    head: &Guide,
+    args: &Vec<Arg>,
+    from: usize,
+) -> Result<Kept<Guide>, NoMemory>
     requires within { from ≤ length args.now.items }
     requires class { IsOf guides (spine head.now (drop from args.now.items)) }
     ensures { IfOk result (λ k. IsKept (spine head.now (drop from args.now.items)) k) }
@@ -94,7 +113,11 @@ fn guide_applied(alloc: Global, head: &Guide, arg: &Arg) -> Result<Guide, NoMemo
 }
 
 /// An erased kind, which has no arguments.
-pub(crate) fn kind_tree(head: &GuideKind, args: &Vec<Arg>, from: usize) -> Result<Kept<GuideKind>, NoMemory>
+pub(crate) fn kind_tree(
+    head: &GuideKind,
+    args: &Vec<Arg>,
+    from: usize,
+) -> Result<Kept<GuideKind>, NoMemory>
     requires { IsOf guide_kinds (spine head.now (drop from args.now.items)) }
     ensures { IfOk result (λ k. IsKept (spine head.now (drop from args.now.items)) k) }
 {

@@ -1,4 +1,4 @@
-use Rattle.std.proofs.Common.{◌≡◌, ◌+◌, ◌-◌, ◌≤◌, [], ◌∷◌, ◌∙◌, IfOk, ap, length, sym, subst, refl, arith}
+use Rattle.std.proofs.Common.{◌≡◌, ◌+◌, ◌-◌, ◌≤◌, [], ◌∷◌, ◌∙◌, IfOk, ap, sym, subst, refl, arith}
 use Rattle.cdle_model.specs.Depth.{ShiftFits}
 use Rattle.cdle_model.specs.Trees.{shift, var}
 use Rattle.core_reduce.specs.declared.root.Arg.TheVariants.{Ap}
@@ -6,7 +6,7 @@ use Rattle.core_reduce.specs.declared.side.SideClass.TheVariants.{OfPure}
 use Rattle.cdle_model.specs.Comparison.{applied}
 use Rattle.core_reduce.specs.Sides.{Sided, spine}
 use Rattle.core_reduce.specs.Values.{applied_to}
-use Rattle.core_reduce.proofs.Raising.{RaisedSo, raised_start, raised_more, raised_end, argument_class, argument_shifts, index_fits}
+use Rattle.core_reduce.proofs.Raising.{raised_start, raised_more, raised_end, argument_class, argument_shifts, index_fits}
 use Rattle.core_reduce.proofs.applied.applied_variable.Goals as goal
 
 pub raised-init : goal.raised-init

@@ -1,4 +1,4 @@
-use Rattle.std.proofs.Common.{◌≡◌, ◌<◌, length, arith}
+use Rattle.std.proofs.Common.{arith}
 use Rattle.core_reduce.proofs.Placing.{innermost_is}
 use Rattle.core_reduce.proofs.reduce.last.Goals as goal
 

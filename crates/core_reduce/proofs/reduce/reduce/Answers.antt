@@ -1,13 +1,13 @@
-use Rattle.std.proofs.Common.{◌≡◌, ◌≤◌, Ok, Err, sym, subst, arith}
+use Rattle.std.proofs.Common.{Ok, Err, sym, subst, arith}
 use Rattle.cdle_model.specs.Classes.{within, item_sorts, IsOf}
 use Rattle.cdle_model.specs.Derivation.{bodies, signature}
 use Rattle.cdle_model.proofs.ClassItems.{items-fit}
 use Rattle.core_reduce.specs.Sides.{class_trees, root_class, root_tree, spine}
 use Rattle.core_reduce.specs.Values.{StandsFor}
-use Rattle.core_reduce.specs.Heads.{MeetsStep, MeetsHead, IsStill, innermost}
+use Rattle.core_reduce.specs.Heads.{MeetsStep}
 use Rattle.core_reduce.proofs.Scopes.{fits_of}
 use Rattle.core_reduce.proofs.Steps.{still_none}
-use Rattle.core_reduce.proofs.Going.{going_start, going_on, going_form, going_err}
+use Rattle.core_reduce.proofs.Going.{going_on, going_form, going_err}
 use Rattle.core_reduce.proofs.reduce.reduce.Goals as goal
 
 pub steps-preserved : goal.steps-preserved

@@ -1,5 +1,5 @@
-use Rattle.std.proofs.Common.{◌≡◌, ◌++◌, ◌∷◌, [], ◌∙◌, ap, sym, subst, refl, Ok}
-use Rattle.cdle_model.specs.Trees.{Tree, of_term, of_type, name}
+use Rattle.std.proofs.Common.{◌++◌, ◌∷◌, [], ◌∙◌, ap, sym, subst, refl, Ok}
+use Rattle.cdle_model.specs.Trees.{of_term, of_type}
 use Rattle.cdle_model.specs.Classes.{item_sorts}
 use Rattle.cdle_model.specs.Derivation.{bodies, signature}
 use Rattle.core_tree.specs.Forms.{guide_tree}

@@ -1,6 +1,5 @@
-use Rattle.std.proofs.Common.{◌≡◌, ◌++◌, ◌∷◌, [], ◌∙◌, ap, sym, subst, refl, Ok}
-use Rattle.cdle_model.specs.Trees.{Tree, of_pure, name}
-use Rattle.cdle_model.specs.Forms.{fn, ap as apply_pure}
+use Rattle.std.proofs.Common.{◌++◌, ◌∷◌, [], ◌∙◌, ap, sym, subst, refl, Ok}
+use Rattle.cdle_model.specs.Trees.{of_pure}
 use Rattle.cdle_model.specs.Classes.{item_sorts}
 use Rattle.cdle_model.specs.Derivation.{bodies, signature}
 use Rattle.core_tree.specs.Forms.{pure_tree}

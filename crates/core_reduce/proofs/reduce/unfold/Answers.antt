@@ -1,5 +1,4 @@
-use Rattle.std.proofs.Common.{◌≡◌, ◌≤◌, ◌∙◌, ap, sym, subst, arith}
-use Rattle.cdle_model.specs.Depth.{depth}
+use Rattle.std.proofs.Common.{◌∙◌, ap, arith}
 use Rattle.cdle_model.specs.Derivation.{bodies, signature}
 use Rattle.core_reduce.specs.Sides.{root_class, root_tree}
 use Rattle.core_reduce.proofs.Steps.{none_left, unfolds, name_halts}

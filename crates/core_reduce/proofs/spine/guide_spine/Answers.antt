@@ -1,5 +1,4 @@
-use Rattle.std.proofs.Common.{◌≡◌, ◌<◌, ◌≤◌, ◌+◌, ◌-◌, suc, length, drop, sym, subst, arith}
-use Rattle.cdle_model.specs.Depth.{depth}
+use Rattle.std.proofs.Common.{◌≡◌, ◌-◌, suc, drop, subst, arith}
 use Rattle.cdle_model.specs.Classes.{anything}
 use Rattle.core_reduce.specs.Sides.{spine}
 use Rattle.core_reduce.proofs.Spines.{head_depth, guide_argument, too_deep_at}

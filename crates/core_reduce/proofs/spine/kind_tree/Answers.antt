@@ -1,7 +1,5 @@
-use Rattle.std.proofs.Common.{◌≡◌, ◌<◌, ◌≤◌, [], ap, sym, ◌∙◌, drop, subst, arith}
-use Rattle.cdle_model.specs.Depth.{depth}
+use Rattle.std.proofs.Common.{◌≡◌, [], drop, arith}
 use Rattle.cdle_model.specs.Classes.{anything}
-use Rattle.core_reduce.specs.Sides.{spine}
 use Rattle.core_reduce.proofs.Spines.{kind_alone}
 use Rattle.core_reduce.proofs.spine.kind_tree.Goals as goal
 

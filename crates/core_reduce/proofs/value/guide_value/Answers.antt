@@ -1,4 +1,4 @@
-use Rattle.std.proofs.Common.{◌≡◌, ◌+◌, ◌<◌, ◌≤◌, suc, length, drop, sym, subst, refl, arith}
+use Rattle.std.proofs.Common.{◌≡◌, ◌+◌, ◌<◌, ◌≤◌, suc, length, drop, sym, subst, arith}
 use Rattle.cdle_model.specs.Classes.{guides, IsOf}
 use Rattle.core_reduce.specs.Sides.{spine}
 use Rattle.core_reduce.proofs.Values.{stuck_head}

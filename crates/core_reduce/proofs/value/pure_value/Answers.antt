@@ -2,7 +2,7 @@ use Rattle.std.proofs.Common.{◌≡◌, [], ◌∙◌, ap, sym, subst, drop, re
 use Rattle.cdle_model.specs.Forms.{fn}
 use Rattle.cdle_model.specs.Classes.{anything, pure_terms, IsOf}
 use Rattle.core_tree.specs.Forms.{pure_tree}
-use Rattle.core_reduce.specs.Sides.{Sided, spine}
+use Rattle.core_reduce.specs.Sides.{spine}
 use Rattle.core_reduce.specs.Heads.{IsStill, innermost}
 use Rattle.core_reduce.proofs.Values.{function_alone}
 use Rattle.core_reduce.proofs.value.pure_value.Goals as goal

@@ -1,6 +1,5 @@
 use Rattle.std.proofs.Common.{◌≡◌, [], IfOk, sym, subst, drop}
-use Rattle.cdle_model.specs.Classes.{anything, guide_kinds, IsOf}
-use Rattle.core_reduce.specs.declared.root.Root.TheVariants.{Kind}
+use Rattle.cdle_model.specs.Classes.{anything, IsOf}
 use Rattle.core_reduce.specs.declared.side.SideClass.TheVariants.{OfKind}
 use Rattle.core_reduce.specs.Sides.{class_trees, root_class, root_tree, spine}
 use Rattle.core_reduce.specs.Values.{StandsFor}

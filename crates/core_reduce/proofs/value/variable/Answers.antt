@@ -1,6 +1,6 @@
-use Rattle.std.proofs.Common.{◌-◌, ◌∙◌, ap, sym, subst, arith}
+use Rattle.std.proofs.Common.{◌-◌, arith}
 use Rattle.core_reduce.specs.declared.side.SideClass.TheVariants.{OfPure, OfType, OfKind}
-use Rattle.core_reduce.proofs.Values.{SidesSo, sides_more, sides_end, no_kind_variable}
+use Rattle.core_reduce.proofs.Values.{sides_more, sides_end, no_kind_variable}
 use Rattle.core_reduce.proofs.value.variable.Goals as goal
 
 pub sides-preserved : goal.sides-preserved

@@ -1,4 +1,4 @@
-use Rattle.std.proofs.Common.{◌≡◌, ◌≤◌, ◌<◌, [], ◌∷◌, ◌++◌, length, sym, ◌∙◌, ap, subst, arith}
+use Rattle.std.proofs.Common.{[], ◌∷◌, ◌++◌, sym, ◌∙◌, ap, subst, arith}
 use Rattle.cdle_model.specs.Classes.{IsOver}
 use Rattle.core_tree.specs.Items.{written}
 use Rattle.core_reduce.specs.Checked.{items_of}

@@ -1,4 +1,4 @@
-use Rattle.std.proofs.Common.{◌≡◌, ◌<◌, length, Some, slice_get, subst, arith}
+use Rattle.std.proofs.Common.{◌≡◌, length, Some, slice_get, subst, arith}
 use Rattle.cdle_model.specs.declared.grammar.Sort.{Sort}
 use Rattle.cdle_model.specs.Classes.{item_sorts}
 use Rattle.cdle_model.specs.Derivation.{bodies, signature}

@@ -1,4 +1,4 @@
-use Rattle.std.proofs.Common.{◌≡◌, ◌<◌, length, Some, slice_get, subst, arith}
+use Rattle.std.proofs.Common.{◌≡◌, length, Some, slice_get, subst, arith}
 use Rattle.core_tree.specs.Items.{written}
 use Rattle.core_reduce.proofs.Bodies.{length_items, item_at}
 use Rattle.core_reduce.proofs.items.CheckedItems.get.Goals as goal

@@ -1,4 +1,4 @@
-use Rattle.std.proofs.Common.{◌≡◌, length, sym, ◌∙◌, subst, arith}
+use Rattle.std.proofs.Common.{◌≡◌, length, subst, arith}
 use Rattle.core_reduce.proofs.Bodies.{length_items}
 use Rattle.core_reduce.proofs.items.CheckedItems.len.Goals as goal
 

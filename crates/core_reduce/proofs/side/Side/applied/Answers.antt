@@ -1,4 +1,4 @@
-use Rattle.std.proofs.Common.{◌≤◌, sym, subst, arith, length}
+use Rattle.std.proofs.Common.{sym, subst, arith}
 use Rattle.cdle_model.specs.Classes.{pure_terms, IsOf}
 use Rattle.core_reduce.specs.Sides.{spine}
 use Rattle.core_reduce.proofs.Raising.{pure_spine_of}
