@@ -21,7 +21,7 @@ use Rattle.core_reduce.specs.declared.reduce.Stop.TheVariants.{Spent, TooDeep, N
 use Rattle.core_reduce.specs.Sides.{IsPlaced, class_trees, root_class, root_tree, spine}
 use Rattle.core_reduce.specs.Values.{StandsFor}
 use Rattle.core_reduce.specs.Heads.{IsHeadForm, MeetsHead, HeadSo, MeetsStep}
-use Rattle.core_reduce.proofs.Leads.{Leads, leads_none, leads_one, leads_on, one_head}
+use Rattle.core_reduce.proofs.Leads.{Leads, leads_one, leads_on, one_head}
 
 pub erased_class : (k : SideClass) → IsErased (class_trees k)
 erased_class OfPure = tt
@@ -45,10 +45,6 @@ module _ (xs : List Sort) (s : List Tree) (k : SideClass) where
     pub leads : Leads (head_move s) (at t) used (at (spine (root_tree h) ys))
     pub placed : IsPlaced m xs (class_trees k) (spine (root_tree h) ys)
     pub low : depth (root_tree h) ≤ 65535
-
-  pub going_start : (m : ℕ) (h : Root) (ys : List Arg) (old : ℕ) → root_class h ≡ k → IsPlaced m xs (class_trees k) (spine (root_tree h) ys) → depth (root_tree h) ≤ 65535
-      → Going m (spine (root_tree h) ys) old h ys old
-  going_start m h ys old e g l = record { class = e; used = 0; total = omega arith; leads = leads_none (head_move s) (at (spine (root_tree h) ys)); placed = g; low = l }
 
   pub going_on : BodiesFit xs s → (m : ℕ) (t : Tree) (old : ℕ) (h r : Root) (ys zs : List Arg) (left less : ℕ) → Going m t old h ys left → MeetsStep s k (root_tree h) ys left zs less (Ok r)
       → Going m t old r zs less

@@ -1,9 +1,9 @@
 -- So many units lead a machine from one state to another; and two budgets with an answer have the same.
-use Rattle.std.proofs.Common.{◌≡◌, ℕ, zero, suc, ◌+◌, ◌≤◌, List, arith, sym, ◌∙◌, subst, refl}
+use Rattle.std.proofs.Common.{◌≡◌, ℕ, suc, ◌+◌, List, arith, sym, ◌∙◌, subst, refl}
 use Rattle.cdle_model.specs.Trees.{Tree}
-use Rattle.cdle_model.specs.Machine.{Move, stop, go, answered, spent, run}
+use Rattle.cdle_model.specs.Machine.{Move, go, answered, run}
 use Rattle.cdle_model.specs.HeadForms.{HeadAnswer, head_form}
-use Rattle.cdle_model.proofs.Runs.{stops, goes}
+use Rattle.cdle_model.proofs.Runs.{goes}
 use Rattle.cdle_model.proofs.LargerBudget.{head_form_more}
 
 -- from s, k units lead to t
@@ -11,30 +11,14 @@ pub record Leads {A S : Type 0} (move : S → Move A S) (s : S) (k : ℕ) (t : S
   pub runs : (n m : ℕ) → n ≡ k + m → run move n s ≡ run move m t
 
 module _ {A S : Type 0} (move : S → Move A S) where
-  pub stays : (s t : S) → move s ≡ move t → (n : ℕ) → run move n s ≡ run move n t
-  stays s t e zero = rw (e, run) refl
-  stays s t e (suc n) = rw (e, run) refl
-
   pub leads_none : (s : S) → Leads move s 0 s
   leads_none s = record { runs = λ n m e. let f : n ≡ m = omega arith in rw f refl }
-
-  pub leads_free : (s t : S) → move s ≡ move t → Leads move s 0 t
-  leads_free s t h = record { runs = λ n m e. let f : n ≡ m = omega arith in rw f (stays s t h m) }
 
   pub leads_one : (s t : S) → move s ≡ go t → Leads move s 1 t
   leads_one s t h = record { runs = λ n m e. let f : n ≡ suc m = omega arith in rw f (goes move s t h m) }
 
   pub leads_on : (s t u : S) (j k : ℕ) → Leads move s j t → Leads move t k u → Leads move s (j + k) u
   leads_on s t u j k f g = record { runs = λ n m e. f.runs n (k + m) (omega arith) ∙ g.runs (k + m) m refl }
-
-  -- what is spent is spent at each smaller number
-  pub spent_below : (n : ℕ) (s : S) (v : Move A S) → move s ≡ v → run move n s ≡ spent → (m : ℕ) → m ≤ n → run move m s ≡ spent
-  spent_below n s (stop a) e h m l = let f : answered a n ≡ spent = sym (stops move s a e n) ∙ h in cc
-  spent_below n s (go t) e h zero l = rw (e, run) refl
-  spent_below zero s (go t) e h (suc m) l = absurd (omega arith)
-  spent_below (suc n) s (go t) e h (suc m) l =
-      let f : run move n t ≡ spent = sym (goes move s t e n) ∙ h in
-      goes move s t e m ∙ spent_below n t (move t) refl f m (omega arith)
 
 pub one_head : (s : List Tree) (p : Tree) (m n : ℕ) (x y : HeadAnswer) (i j : ℕ) → head_form s m p ≡ answered x i → head_form s n p ≡ answered y j → x ≡ y
 one_head s p m n x y i j e f =

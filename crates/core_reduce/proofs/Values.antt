@@ -1,18 +1,14 @@
 -- Head forms as values.
-use Rattle.std.proofs.Common.{◌≡◌, ℕ, zero, suc, ◌<◌, ◌≤◌, List, [], ◌∷◌, ◌++◌, length, get_or, drop, Option, sym, ◌∙◌, subst, refl, ap, arith}
-use Rattle.std.proofs.Math.Seq.{drop-length}
+use Rattle.std.proofs.Common.{◌≡◌, ℕ, zero, suc, ◌<◌, ◌≤◌, List, [], ◌∷◌, ◌++◌, length, get_or, drop, sym, ◌∙◌, subst, refl, arith}
 use Rattle.cdle_model.specs.Trees.{of_pure, Tree, var, fun, apply}
 use Rattle.cdle_model.specs.Classes.{pure_terms, guides, guide_kinds, anything, Scope, Fits, IsOf}
-use Rattle.core_tree.specs.declared.guide.GuideForm.{GuideForm}
-use Rattle.core_tree.specs.declared.guide.GuideForm.TheVariants as g
-use Rattle.core_tree.specs.Forms.{guide_tree}
 use Rattle.core_reduce.specs.declared.root.Arg.{Arg}
 use Rattle.core_reduce.specs.declared.root.Arg.TheVariants.{Ap, At, On}
 use Rattle.core_reduce.specs.declared.side.SideClass.{SideClass}
 use Rattle.core_reduce.specs.declared.side.SideClass.TheVariants.{OfPure, OfType, OfKind}
 use Rattle.core_reduce.specs.Sides.{Sided, class_trees, arg_function, arg_class, arg_tree, spine}
 use Rattle.core_reduce.specs.Values.{applied_by, applied_to, IsArgument, AreArguments}
-use Rattle.core_reduce.specs.Heads.{innermost, IsStill, IsOther}
+use Rattle.core_reduce.specs.Heads.{innermost, IsStill}
 use Rattle.core_reduce.proofs.Spines.{ArgFits, head_fits, spine_head, spine_at, argument_fits}
 
 -- ---- a variable with arguments
@@ -36,13 +32,6 @@ pub record SidesSo (i : ℕ) (xs : List Arg) (from k : ℕ) (sides : List Sided)
   pub above : from ≤ k
   pub below : k ≤ length xs
   pub stands : (c : SideClass) → IsOf (class_trees c) (spine (var i) (drop from xs)) → AreArguments c sides × (applied_to c (var i) sides ≡ spine (var i) (drop k xs))
-
-pub sides_start : (i : ℕ) (xs : List Arg) (from k : ℕ) → from ≤ length xs → k ≡ length xs → SidesSo i xs from k []
-sides_start i xs from k l e = record {
-  above = omega arith;
-  below = omega arith;
-  stands = λ c h. (tt, sym (ap (spine (var i)) (ap (λ n. drop n xs) e ∙ drop-length xs)));
-}
 
 pub sides_more : (i : ℕ) (xs : List Arg) (from k less : ℕ) (sides : List Sided) (x : Arg) (s : Sided) → SidesSo i xs from k sides → k ≡ suc less → from ≤ less → x ≡ get_or xs less x
     → s ≡ record { class = arg_class x; tree = arg_tree x } → SidesSo i xs from less (sides ++ s ∷ [])
@@ -84,20 +73,6 @@ function_alone s p (x ∷ []) h i = absurd (by_arg x (head_fits s OfPure (fun of
     by_arg (At q) k n = k
     by_arg (On q) k n = k
 function_alone s p (x ∷ y ∷ ys) h i = absurd (nonempty y ys (function_alone s p (y ∷ ys) (head_fits s OfPure (spine (fun of_pure p) (y ∷ ys)) x h).0 i))
-
--- a guide that has no step and is no variable is one of the other forms
-pub other_form : (f : GuideForm) (o : Option Arg) → ((i : ℕ) → f ≡ g.Var i → ⊥) → IsStill (guide_tree f) o → IsOther (guide_tree f)
-other_form (g.Var i) o n h = n i refl
-other_form (g.Name m) o n h = h
-other_form (g.Pi a b) o n h = tt
-other_form (g.All a b) o n h = tt
-other_form (g.Allt a b) o n h = tt
-other_form (g.Tlam a) o n h = tt
-other_form (g.Xtlam a) o n h = tt
-other_form (g.At a b) o n h = h
-other_form (g.On a b) o n h = h
-other_form (g.Iota a b) o n h = tt
-other_form (g.Eq a b) o n h = tt
 
 -- what is left of a stuck application without its outermost argument
 pub stuck_head : (h : Tree) (xs : List Arg) (from : ℕ) → IsOf guides (spine h (drop from xs)) → from < length xs → IsOf guides (spine h (drop (suc from) xs))

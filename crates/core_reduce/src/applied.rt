@@ -1,3 +1,4 @@
+//! A pure head form applied to a new variable.
 ghost use Rattle.std.specs.Prelude.{◌≡◌, IfOk};
 ghost use Rattle.cdle_model.specs.Comparison.{applied};
 ghost use Rattle.cdle_model.specs.Forms.{fn};
@@ -56,6 +57,7 @@ fn applied_variable(alloc: Global, index: u32, args: &Vec<Side>) -> Result<Side,
     'raised: while k > 0 {
         k -= 1;
         let arg = args[k].flat_pure(alloc)?;
+        // Asked for its bound alone.
         let _depth = arg.depth();
         let raised = arg.shift(alloc, 0, 1)?;
         raised.known();

@@ -1,3 +1,4 @@
+//! The units that head forms and comparisons take.
 ghost use Rattle.std.specs.Prelude.{◌≡◌, ◌+◌, ◌<◌, ◌↔◌, IsTrue};
 
 /// The units that are left.

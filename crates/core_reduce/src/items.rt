@@ -1,3 +1,4 @@
+//! The items that were checked, with their erased bodies.
 ghost use Rattle.std.specs.Prelude.{◌≡◌, ◌++◌, ◌<◌, ◌∷◌, [], IfOk, MatchResult, Some, length, slice_get};
 ghost use Rattle.cdle_model.specs.Classes.{AreItems, IsOver, item_sorts};
 ghost use Rattle.cdle_model.specs.Derivation.{bodies, signature};

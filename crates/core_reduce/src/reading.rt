@@ -1,3 +1,4 @@
+//! Head forms as trees.
 ghost use Rattle.std.specs.Prelude.{◌≡◌, ◌∷◌, [], IfOk};
 ghost use Rattle.cdle_model.specs.Forms.{ap, eq, fn, kpi, kpit, all, allt, at_, guide_tlam, guide_xtlam, iota, on, pi};
 ghost use Rattle.cdle_model.specs.Trees.{apply, var};
@@ -59,7 +60,7 @@ fn function(alloc: Global, body: &Side) -> Result<Kept<Pure>, NoMemory>
     Ok(Kept::Whole(Pure::function(alloc, &body)?))
 }
 
-// The part as one tree, unless it is too deep for one more form over it.
+/// The part as one tree, unless it is too deep for one more form over it.
 fn pure_part(alloc: Global, part: &Side) -> Result<Option<Pure>, NoMemory>
     requires { part.now.class ≡ OfPure }
     ensures { IfOk result (λ o. IsPart part.now.tree o) }

@@ -1,3 +1,4 @@
+//! Bringing a side to its head form.
 ghost use Rattle.std.specs.Prelude.{◌≡◌, ◌++◌, ◌<◌, ◌≤◌, ◌∷◌, [], IfOk, IsFalse, IsTrue, List, drop, length};
 ghost use Rattle.cdle_model.specs.Classes.{Fits, UsedAs, guides, item_sorts, pure_terms, within};
 ghost use Rattle.cdle_model.specs.Depth.{depth};
@@ -70,6 +71,7 @@ pub fn head(
     ensures so { HeadSo (bodies (signature items.now)) at.now.class at.now.tree budget.old.left result }
     ensures less { budget.new.left ≤ budget.old.left }
 {
+    // Asked for its bound alone, which the loop keeps.
     let _depth = at.head.depth();
     if is_still(&at.head, &at.args, at.from) {
         return Ok(value_of(alloc, &at.head, &at.args, at.from)?);
@@ -79,7 +81,7 @@ pub fn head(
     reduce(alloc, items, now, args, budget)
 }
 
-// The arguments from the place `from` on.
+/// The arguments from the place `from` on.
 fn copy(alloc: Global, args: &Vec<Arg>, from: usize) -> Result<Vec<Arg>, NoMemory>
     requires { from ≤ length args.now.items }
     ensures { IfOk result (λ copy. copy.items ≡ drop from args.now.items) }
@@ -93,7 +95,7 @@ fn copy(alloc: Global, args: &Vec<Arg>, from: usize) -> Result<Vec<Arg>, NoMemor
     Ok(all)
 }
 
-// Whether a head with the arguments from the place `from` on has no step.
+/// Whether a head with the arguments from the place `from` on has no step.
 fn is_still(now: &Root, args: &Vec<Arg>, from: usize) -> bool
     requires { from ≤ length args.now.items }
     ensures still { IsTrue result → IsStill (root_tree now.now) (innermost (drop from args.now.items)) }
@@ -110,7 +112,7 @@ fn is_still(now: &Root, args: &Vec<Arg>, from: usize) -> bool
     }
 }
 
-// The innermost of the arguments from the place `from` on.
+/// The innermost of the arguments from the place `from` on.
 fn last(args: &Vec<Arg>, from: usize) -> Option<&Arg>
     requires { from ≤ length args.now.items }
     ensures { innermost (drop from args.now.items) ≡ seen result }
@@ -148,7 +150,7 @@ fn is_still_guide(now: &Guide, arg: Option<&Arg>) -> bool
     }
 }
 
-// The head form of a head with its arguments.
+/// The head form of a head with its arguments.
 fn reduce(
     alloc: Global,
     items: &CheckedItems,
@@ -173,7 +175,7 @@ fn reduce(
     Ok(value)
 }
 
-// One move of a head: an argument of it is put on the list, or a contraction or an unfolding is made.
+/// One move of a head: an argument of it is put on the list, or a contraction or an unfolding is made.
 fn step(
     alloc: Global,
     items: &CheckedItems,
@@ -259,7 +261,7 @@ fn step_guide(
     }
 }
 
-// Takes the innermost argument off the list.
+/// Takes the innermost argument off the list.
 fn pop(args: &mut Vec<Arg>) -> Arg
     requires { args.old.items ≡ [] → ⊥ }
     ensures { args.old.items ≡ args.new.items ++ result ∷ [] }
@@ -270,7 +272,7 @@ fn pop(args: &mut Vec<Arg>) -> Arg
     arg
 }
 
-// The item's erased body for its name, with one unit.
+/// The item's erased body for its name, with one unit.
 fn unfold(items: &CheckedItems, item: u32, budget: &mut Budget) -> Result<Root, Stop>
     requires { item < length items.now }
     ensures step { (k : SideClass) (vs : List Sort) (xs : List Arg) → Fits (within vs (item_sorts items.now)) (class_trees k) (name item) → MeetsStep (bodies (signature items.now)) k (name item) xs budget.old.left xs budget.new.left result }
@@ -280,11 +282,12 @@ fn unfold(items: &CheckedItems, item: u32, budget: &mut Budget) -> Result<Root, 
     if !budget.take() {
         return Err(Stop::Spent);
     }
+    // Asked for its bound alone.
     let _depth = body.depth();
     Ok(body.share()?)
 }
 
-// The body of a function with the argument put for its variable, with one unit.
+/// The body of a function with the argument put for its variable, with one unit.
 fn contract_ap(alloc: Global, body: &Pure, arg: &Pure, budget: &mut Budget) -> Result<Root, Stop>
     requires used { UsedAs OfTerm 0 pure_terms body.now }
     requires below { IsBelow 4290000000 arg.now }

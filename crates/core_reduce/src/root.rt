@@ -1,3 +1,4 @@
+//! Heads and arguments of sides.
 ghost use Rattle.std.specs.Prelude.{◌≡◌, ◌≤◌, IfOk};
 ghost use Rattle.cdle_model.specs.Depth.{depth};
 ghost use Rattle.core_reduce.specs.Sides.{arg_tree, name_of, root_tree};

@@ -1,3 +1,4 @@
+//! Sides: erased trees as heads with arguments.
 ghost use Rattle.std.specs.Prelude.{◌≡◌, IfOk};
 ghost use Rattle.cdle_model.specs.Erasure.{HasErasure, erased};
 ghost use Rattle.core_reduce.specs.Sides.{ArePure, IsKept, arg_class, arg_tree, name_of, spine};

@@ -1,3 +1,4 @@
+//! A head with its arguments as one tree.
 ghost use Rattle.std.specs.Prelude.{◌≡◌, ◌<◌, ◌≤◌, [], IfOk, IsFalse, IsTrue, drop, length};
 ghost use Rattle.cdle_model.specs.Trees.{of_pure, apply};
 ghost use Rattle.cdle_model.specs.Depth.{depth};

@@ -1,3 +1,4 @@
+//! Head forms.
 ghost use Rattle.std.specs.Prelude.{◌≡◌, ◌<◌, ◌∷◌, ◌≤◌, [], IfOk, drop, get_or, length};
 ghost use Rattle.cdle_model.specs.Trees.{apply, of_pure, var};
 ghost use Rattle.cdle_model.specs.Classes.{IsOf, guides, pure_terms};
@@ -43,7 +44,7 @@ pub enum Value {
     Former { former: Former, parts: Vec<Side> },
 }
 
-// A form without parts.
+/// A form without parts.
 fn no_parts(alloc: Global, former: Former) -> Value
     requires { former_parts former ≡ [] }
     ensures { StandsFor (former_class former) result (former_tree former []) }
@@ -54,7 +55,7 @@ fn no_parts(alloc: Global, former: Former) -> Value
     }
 }
 
-// A form of one part.
+/// A form of one part.
 fn one_part(alloc: Global, former: Former, part: Side) -> Result<Value, NoMemory>
     requires { former_parts former ≡ part.class ∷ [] }
     ensures { IfOk result (λ v. StandsFor (former_class former) v (former_tree former (part ∷ []))) }
@@ -64,7 +65,7 @@ fn one_part(alloc: Global, former: Former, part: Side) -> Result<Value, NoMemory
     Ok(Value::Former { former, parts })
 }
 
-// A form of two parts.
+/// A form of two parts.
 fn two_parts(alloc: Global, former: Former, left: Side, right: Side) -> Result<Value, NoMemory>
     requires { former_parts former ≡ left.class ∷ right.class ∷ [] }
     ensures { IfOk result (λ v. StandsFor (former_class former) v (former_tree former (left ∷ right ∷ []))) }
@@ -75,7 +76,7 @@ fn two_parts(alloc: Global, former: Former, left: Side, right: Side) -> Result<V
     Ok(Value::Former { former, parts })
 }
 
-// A variable with the arguments from the place `from` on.
+/// A variable with the arguments from the place `from` on.
 fn variable(alloc: Global, index: u32, args: &Vec<Arg>, from: usize) -> Result<Value, NoMemory>
     requires { from ≤ length args.now.items }
     ensures { IfOk result (λ v. (k : SideClass) → IsOf (class_trees k) (spine (var index) (drop from args.now.items)) → StandsFor k v (spine (var index) (drop from args.now.items))) }
@@ -157,7 +158,7 @@ fn argument(args: &Vec<Arg>, at: usize) -> &Arg
     &args[at]
 }
 
-// An application that is stuck.
+/// An application that is stuck.
 fn stuck(alloc: Global, head: Side, arg: &Arg) -> Result<Value, NoMemory>
     requires head { head.class ≡ OfType }
     requires arg { arg_function arg.now ≡ of_pure → ⊥ }
@@ -170,7 +171,7 @@ fn stuck(alloc: Global, head: Side, arg: &Arg) -> Result<Value, NoMemory>
     }
 }
 
-// An erased type that is no variable, no name and no application.
+/// An erased type that is no variable, no name and no application.
 fn form_of(alloc: Global, now: &Guide) -> Result<Value, NoMemory>
     requires other { IsOther now.now }
     ensures { IfOk result (λ v. StandsFor OfType v now.now) }
