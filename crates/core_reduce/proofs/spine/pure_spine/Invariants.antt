@@ -1,0 +1,10 @@
+use Rattle.std.proofs.Common.{◌≡◌, ◌≤◌, length, drop}
+use Rattle.cdle_model.specs.Depth.{depth}
+use Rattle.core_reduce.specs.Sides.{spine}
+use Rattle.core_reduce.proofs.spine.pure_spine.Given as goal
+
+abbrev pub invariant-build : goal.invariant-build
+invariant-build l = (l.from ≤ l.k) × (l.k ≤ length l.args.items) × (l.tree ≡ spine l.head (drop l.k l.args.items)) × (depth l.tree ≤ 4096)
+
+abbrev pub decreases-build : goal.decreases-build
+decreases-build l = l.k

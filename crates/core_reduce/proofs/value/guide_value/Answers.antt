@@ -1,0 +1,14 @@
+use Rattle.std.proofs.Common.{◌≡◌, ◌+◌, ◌<◌, ◌≤◌, suc, length, drop, sym, subst, arith}
+use Rattle.cdle_model.specs.Classes.{guides, IsOf}
+use Rattle.core_reduce.specs.Sides.{spine}
+use Rattle.core_reduce.proofs.Values.{stuck_head}
+use Rattle.core_reduce.proofs.value.guide_value.Goals as goal
+
+pub invariant_of-head : goal.invariant_of-head
+invariant_of-head c =
+    let xs = c.args.args.now.value.items in
+    let l : c.args.from < length xs = subst (λ v. c.args.from < length v.items) c.deref-2.ensures (c.is_applied.ensures.some c.if-not-is_applied.false) in
+    let e : suc c.args.from ≡ c.args.from + 1 = omega arith in
+    let h : IsOf guides (spine c.args.now.now (drop (c.args.from + 1) xs)) = subst (λ n. IsOf guides (spine c.args.now.now (drop n xs))) e (stuck_head c.args.now.now xs c.args.from c.requires.class l) in
+    subst (λ v. (c.args.from + 1 ≤ length v.items) × IsOf guides (spine c.in_ok-clone.field-0 (drop (c.args.from + 1) v.items))) (sym c.in_ok-clone-2.ensures.cases)
+    (omega arith, subst (λ t. IsOf guides (spine t (drop (c.args.from + 1) xs))) (sym c.in_ok-clone.ensures.cases) h)

@@ -1,0 +1,5 @@
+pub mod Sides
+pub mod Code
+pub mod Checked
+pub mod Values
+pub mod Heads

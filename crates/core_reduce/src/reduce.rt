@@ -1,0 +1,343 @@
+//! Bringing a side to its head form.
+ghost use Rattle.std.specs.Prelude.{◌≡◌, ◌++◌, ◌<◌, ◌≤◌, ◌∷◌, [], IfOk, IsFalse, IsTrue, List, drop, length};
+ghost use Rattle.cdle_model.specs.Classes.{Fits, UsedAs, guides, item_sorts, pure_terms, within};
+ghost use Rattle.cdle_model.specs.Depth.{depth};
+ghost use Rattle.cdle_model.specs.Derivation.{bodies, signature};
+ghost use Rattle.cdle_model.specs.Forms.{fn, guide_tlam, guide_xtlam};
+ghost use Rattle.cdle_model.specs.Trees.{IsBelow, Tree, name};
+ghost use Rattle.cdle_model.specs.declared.grammar.Sort.{Sort};
+ghost use Rattle.cdle_model.specs.declared.grammar.Sort.TheVariants.{OfTerm, OfType as OfTypes};
+ghost use Rattle.core_reduce.specs.Heads.{HeadSo, IsStill, MeetsHead, MeetsStep, innermost, put_stop_of, seen};
+ghost use Rattle.core_reduce.specs.Sides.{IsPlaced, class_trees, root_class, root_tree, spine};
+ghost use Rattle.core_reduce.specs.declared.root.Arg.{Arg};
+ghost use Rattle.core_reduce.specs.declared.root.Arg.TheVariants.{Ap, At, On};
+ghost use Rattle.core_reduce.specs.declared.side.SideClass.{SideClass};
+ghost use Rattle.core_reduce.specs.declared.side.SideClass.TheVariants.{OfPure, OfType};
+ghost use Rattle.core_reduce.specs.declared.reduce.Stop.TheVariants.{NoMemory as Wanted};
+
+use crate::budget::Budget;
+use crate::items::CheckedItems;
+use crate::root::{Arg, Root};
+use crate::side::Side;
+use crate::value::{Value, value_of};
+use cdle_model::NoMemory;
+use core_tree::{Guide, GuideForm, Pure, PureForm, PutStop};
+use std::alloc::{AllocError, AllocFailed, Global};
+use std::rc::Rc;
+
+/// Why there is no answer.
+#[derive(Clone, Copy, Debug, PartialEq, Eq)]
+pub enum Stop {
+    /// More units are needed than the budget holds.
+    Spent,
+    /// A contraction gives a tree that is deeper than 4,096.
+    TooDeep,
+    NoMemory,
+}
+
+impl From<NoMemory> for Stop {
+    ghost from_gives = { λ _ e. e ≡ Wanted };
+
+    fn from(_: NoMemory) -> Stop {
+        Stop::NoMemory
+    }
+}
+
+impl From<AllocError> for Stop {
+    ghost from_gives = { λ _ e. e ≡ Wanted };
+
+    fn from(_: AllocError) -> Stop {
+        Stop::NoMemory
+    }
+}
+
+impl<T: Drop> From<AllocFailed<T>> for Stop {
+    ghost from_gives = { λ _ e. e ≡ Wanted };
+
+    fn from(_: AllocFailed<T>) -> Stop {
+        Stop::NoMemory
+    }
+}
+
+/// The head form of the side over the items, with the units of the budget.
+pub fn head(
+    alloc: Global,
+    items: &CheckedItems,
+    at: &Side,
+    budget: &mut Budget,
+) -> Result<Value, Stop>
+    requires { IsPlaced 4250000000 (item_sorts items.now) (class_trees at.now.class) at.now.tree }
+    ensures form { MeetsHead (bodies (signature items.now)) at.now.class at.now.tree budget.old.left budget.new.left result }
+    ensures so { HeadSo (bodies (signature items.now)) at.now.class at.now.tree budget.old.left result }
+    ensures less { budget.new.left ≤ budget.old.left }
+{
+    // Asked for its bound alone, which the loop keeps.
+    let _depth = at.head.depth();
+    if is_still(&at.head, &at.args, at.from) {
+        return Ok(value_of(alloc, &at.head, &at.args, at.from)?);
+    }
+    let now = at.head.share()?;
+    let args = copy(alloc, &at.args, at.from)?;
+    reduce(alloc, items, now, args, budget)
+}
+
+/// The arguments from the place `from` on.
+fn copy(alloc: Global, args: &Vec<Arg>, from: usize) -> Result<Vec<Arg>, NoMemory>
+    requires { from ≤ length args.now.items }
+    ensures { IfOk result (λ copy. copy.items ≡ drop from args.now.items) }
+{
+    let mut all = Vec::new(alloc);
+    let mut k = from;
+    'copied: while k < args.len() {
+        all.push(args[k].share()?)?;
+        k += 1;
+    }
+    Ok(all)
+}
+
+/// Whether a head with the arguments from the place `from` on has no step.
+fn is_still(now: &Root, args: &Vec<Arg>, from: usize) -> bool
+    requires { from ≤ length args.now.items }
+    ensures still { IsTrue result → IsStill (root_tree now.now) (innermost (drop from args.now.items)) }
+    ensures moves { IsFalse result → IsStill (root_tree now.now) (innermost (drop from args.now.items)) → ⊥ }
+{
+    let arg = last(args, from);
+    match now {
+        Root::Pure(term) => is_still_pure(term, arg),
+        Root::Guide(guide) => is_still_guide(guide, arg),
+        Root::Kind(kind) => {
+            kind.known();
+            true
+        }
+    }
+}
+
+/// The innermost of the arguments from the place `from` on.
+fn last(args: &Vec<Arg>, from: usize) -> Option<&Arg>
+    requires { from ≤ length args.now.items }
+    ensures { innermost (drop from args.now.items) ≡ seen result }
+{
+    if from < args.len() {
+        Some(&args[args.len() - 1])
+    } else {
+        None
+    }
+}
+
+fn is_still_pure(now: &Pure, arg: Option<&Arg>) -> bool
+    ensures still { IsTrue result → IsStill now.now (seen arg.entry) }
+    ensures moves { IsFalse result → IsStill now.now (seen arg.entry) → ⊥ }
+{
+    match now.form() {
+        PureForm::Var(_) => true,
+        PureForm::Function(_) => !matches!(arg, Some(Arg::Ap(_))),
+        PureForm::Name(_) => false,
+        PureForm::Ap(_, _) => false,
+    }
+}
+
+fn is_still_guide(now: &Guide, arg: Option<&Arg>) -> bool
+    ensures still { IsTrue result → IsStill now.now (seen arg.entry) }
+    ensures moves { IsFalse result → IsStill now.now (seen arg.entry) → ⊥ }
+{
+    match now.form() {
+        GuideForm::Tlam(_) => !matches!(arg, Some(Arg::At(_))),
+        GuideForm::Xtlam(_) => !matches!(arg, Some(Arg::On(_))),
+        GuideForm::Name(_) => false,
+        GuideForm::At(_, _) => false,
+        GuideForm::On(_, _) => false,
+        _ => true,
+    }
+}
+
+/// The head form of a head with its arguments.
+fn reduce(
+    alloc: Global,
+    items: &CheckedItems,
+    mut now: Root,
+    mut args: Vec<Arg>,
+    budget: &mut Budget,
+) -> Result<Value, Stop>
+    requires placed { IsPlaced 4250000000 (item_sorts items.now) (class_trees (root_class now)) (spine (root_tree now) args.items) }
+    requires low { depth (root_tree now) ≤ 65535 }
+    ensures form { MeetsHead (bodies (signature items.now)) (root_class now) (spine (root_tree now) args.items) budget.old.left budget.new.left result }
+    ensures less { budget.new.left ≤ budget.old.left }
+{
+    items.known();
+    'steps: while !is_still(&now, &args, 0) {
+        match step(alloc, items, &now, &mut args, budget) {
+            Ok(next) => now = next,
+            Err(stop) => return Err(stop),
+        }
+    }
+    let args = Rc::new(alloc, args)?;
+    let value = value_of(alloc, &now, &args, 0)?;
+    Ok(value)
+}
+
+/// One move of a head: an argument of it is put on the list, or a contraction or an unfolding is made.
+fn step(
+    alloc: Global,
+    items: &CheckedItems,
+    now: &Root,
+    args: &mut Vec<Arg>,
+    budget: &mut Budget,
+) -> Result<Root, Stop>
+    requires placed { IsPlaced 4250000000 (item_sorts items.now) (class_trees (root_class now.now)) (spine (root_tree now.now) args.old.items) }
+    requires moves { IsStill (root_tree now.now) (innermost args.old.items) → ⊥ }
+    ensures step { MeetsStep (bodies (signature items.now)) (root_class now.now) (root_tree now.now) args.old.items budget.old.left args.new.items budget.new.left result }
+    ensures less { budget.new.left ≤ budget.old.left }
+{
+    match now {
+        Root::Pure(now) => step_pure(alloc, items, now, args, budget),
+        Root::Guide(now) => step_guide(alloc, items, now, args, budget),
+        Root::Kind(now) => {
+            now.known();
+            unreachable!()
+        }
+    }
+}
+
+fn step_pure(
+    alloc: Global,
+    items: &CheckedItems,
+    now: &Pure,
+    args: &mut Vec<Arg>,
+    budget: &mut Budget,
+) -> Result<Root, Stop>
+    requires placed { IsPlaced 4250000000 (item_sorts items.now) pure_terms (spine now.now args.old.items) }
+    requires moves { IsStill now.now (innermost args.old.items) → ⊥ }
+    ensures step { MeetsStep (bodies (signature items.now)) OfPure now.now args.old.items budget.old.left args.new.items budget.new.left result }
+    ensures less { budget.new.left ≤ budget.old.left }
+{
+    match now.form() {
+        PureForm::Name(item) => unfold(items, *item, budget),
+        PureForm::Function(body) => {
+            let arg = pop(args);
+            let Arg::Ap(arg) = &arg else { unreachable!() };
+            contract_ap(alloc, body, arg, budget)
+        }
+        PureForm::Ap(head, arg) => {
+            args.push(Arg::Ap(arg.clone()?))?;
+            Ok(Root::Pure(head.clone()?))
+        }
+        PureForm::Var(_) => unreachable!(),
+    }
+}
+
+fn step_guide(
+    alloc: Global,
+    items: &CheckedItems,
+    now: &Guide,
+    args: &mut Vec<Arg>,
+    budget: &mut Budget,
+) -> Result<Root, Stop>
+    requires placed { IsPlaced 4250000000 (item_sorts items.now) guides (spine now.now args.old.items) }
+    requires moves { IsStill now.now (innermost args.old.items) → ⊥ }
+    ensures step { MeetsStep (bodies (signature items.now)) OfType now.now args.old.items budget.old.left args.new.items budget.new.left result }
+    ensures less { budget.new.left ≤ budget.old.left }
+{
+    match now.form() {
+        GuideForm::Name(item) => unfold(items, *item, budget),
+        GuideForm::Tlam(body) => {
+            let arg = pop(args);
+            let Arg::At(arg) = &arg else { unreachable!() };
+            contract_at(alloc, body, arg, budget)
+        }
+        GuideForm::Xtlam(body) => {
+            let arg = pop(args);
+            let Arg::On(arg) = &arg else { unreachable!() };
+            contract_on(alloc, body, arg, budget)
+        }
+        GuideForm::At(head, arg) => {
+            args.push(Arg::At(arg.clone()?))?;
+            Ok(Root::Guide(head.clone()?))
+        }
+        GuideForm::On(head, arg) => {
+            args.push(Arg::On(arg.clone()?))?;
+            Ok(Root::Guide(head.clone()?))
+        }
+        _ => unreachable!(),
+    }
+}
+
+/// Takes the innermost argument off the list.
+fn pop(args: &mut Vec<Arg>) -> Arg
+    requires { args.old.items ≡ [] → ⊥ }
+    ensures { args.old.items ≡ args.new.items ++ result ∷ [] }
+{
+    let Some(arg) = args.pop() else {
+        unreachable!()
+    };
+    arg
+}
+
+/// The item's erased body for its name, with one unit.
+fn unfold(items: &CheckedItems, item: u32, budget: &mut Budget) -> Result<Root, Stop>
+    requires { item < length items.now }
+    ensures step { (k : SideClass) (vs : List Sort) (xs : List Arg) → Fits (within vs (item_sorts items.now)) (class_trees k) (name item) → MeetsStep (bodies (signature items.now)) k (name item) xs budget.old.left xs budget.new.left result }
+    ensures less { budget.new.left ≤ budget.old.left }
+{
+    let body = items.body(item);
+    if !budget.take() {
+        return Err(Stop::Spent);
+    }
+    // Asked for its bound alone.
+    let _depth = body.depth();
+    Ok(body.share()?)
+}
+
+/// The body of a function with the argument put for its variable, with one unit.
+fn contract_ap(alloc: Global, body: &Pure, arg: &Pure, budget: &mut Budget) -> Result<Root, Stop>
+    requires used { UsedAs OfTerm 0 pure_terms body.now }
+    requires below { IsBelow 4290000000 arg.now }
+    ensures step { (s : List Tree) (xs : List Arg) → MeetsStep s OfPure (fn body.now) (xs ++ Ap arg.now ∷ []) budget.old.left xs budget.new.left result }
+    ensures less { budget.new.left ≤ budget.old.left }
+{
+    if !budget.take() {
+        return Err(Stop::Spent);
+    }
+    match body.put_pure(alloc, 0, arg) {
+        Ok(tree) => Ok(Root::Pure(tree)),
+        Err(stop) => Err(put_stop(stop)),
+    }
+}
+
+fn contract_at(alloc: Global, body: &Guide, arg: &Pure, budget: &mut Budget) -> Result<Root, Stop>
+    requires used { UsedAs OfTerm 0 guides body.now }
+    requires below { IsBelow 4290000000 arg.now }
+    ensures step { (s : List Tree) (xs : List Arg) → MeetsStep s OfType (guide_tlam body.now) (xs ++ At arg.now ∷ []) budget.old.left xs budget.new.left result }
+    ensures less { budget.new.left ≤ budget.old.left }
+{
+    if !budget.take() {
+        return Err(Stop::Spent);
+    }
+    match body.put_pure(alloc, 0, arg) {
+        Ok(tree) => Ok(Root::Guide(tree)),
+        Err(stop) => Err(put_stop(stop)),
+    }
+}
+
+fn contract_on(alloc: Global, body: &Guide, arg: &Guide, budget: &mut Budget) -> Result<Root, Stop>
+    requires used { UsedAs OfTypes 0 guides body.now }
+    requires below { IsBelow 4290000000 arg.now }
+    ensures step { (s : List Tree) (xs : List Arg) → MeetsStep s OfType (guide_xtlam body.now) (xs ++ On arg.now ∷ []) budget.old.left xs budget.new.left result }
+    ensures less { budget.new.left ≤ budget.old.left }
+{
+    if !budget.take() {
+        return Err(Stop::Spent);
+    }
+    match body.put_guide(alloc, 0, arg) {
+        Ok(tree) => Ok(Root::Guide(tree)),
+        Err(stop) => Err(put_stop(stop)),
+    }
+}
+
+fn put_stop(stop: PutStop) -> Stop
+    ensures { result ≡ put_stop_of stop }
+{
+    match stop {
+        PutStop::TooDeep => Stop::TooDeep,
+        PutStop::NoMemory => Stop::NoMemory,
+    }
+}
