@@ -34,6 +34,8 @@ impl MemoryFolder {
         ensures given { ⟦<MemoryFolder as Folder>⟧.given result ≡ Some [] }
         ensures read_faults { ⟦<MemoryFolder as Folder>⟧.read_faults result ≡ 0 }
         ensures absences { ⟦<MemoryFolder as Folder>⟧.absences result ≡ 0 }
+        ensures calls { result.calls ≡ 0 }
+        ensures fail { result.fail ≡ fail }
     {
         MemoryFolder {
             alloc,
@@ -54,6 +56,8 @@ impl MemoryFolder {
         ensures given { ⟦<MemoryFolder as Folder>⟧.given self.new ≡ ⟦<MemoryFolder as Folder>⟧.given self.old }
         ensures read_faults { ⟦<MemoryFolder as Folder>⟧.read_faults self.new ≡ ⟦<MemoryFolder as Folder>⟧.read_faults self.old }
         ensures absences { ⟦<MemoryFolder as Folder>⟧.absences self.new ≡ ⟦<MemoryFolder as Folder>⟧.absences self.old }
+        ensures calls { self.new.calls ≡ self.old.calls }
+        ensures fail { self.new.fail ≡ self.old.fail }
     {
         put_file(self.alloc, &mut self.files, name, bytes).map_err(|_| NoMemory)
     }

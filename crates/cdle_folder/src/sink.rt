@@ -24,6 +24,9 @@ impl MemorySink {
     pub fn new(alloc: Global, fail: Vec<u32>, room: usize) -> Result<MemorySink, NoMemory>
         ensures written { IfOk result (λ sink. ⟦<MemorySink as Sink>⟧.written sink ≡ Some []) }
         ensures faults { IfOk result (λ sink. ⟦<MemorySink as Sink>⟧.faults sink ≡ 0) }
+        ensures fails { IfOk result (λ sink. sink.fail ≡ fail) }
+        ensures room { IfOk result (λ sink. sink.room ≡ room) }
+        ensures puts { IfOk result (λ sink. sink.puts ≡ 0) }
     {
         let Ok(bytes) = Vec::with_capacity(alloc, room) else {
             return Err(NoMemory);
