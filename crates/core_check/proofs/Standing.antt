@@ -1,5 +1,5 @@
 -- How the check stands after some of the items.
-use Rattle.std.proofs.Common.{◌≡◌, ℕ, zero, suc, ◌≤◌, Bool, true, false, cond, Decides, List, [], ◌∷◌, ◌++◌, length, Option, Some, None, option_map, refl, sym, ap, subst, ◌∙◌, arith}
+use Rattle.std.proofs.Common.{◌≡◌, ℕ, zero, suc, ◌≤◌, Bool, true, false, cond, Decides, List, [], ◌∷◌, ◌++◌, length, Option, Some, None, option_map, refl, sym, ap, subst, ◌∙◌}
 use Rattle.std.specs.Str.{bytes_eq}
 use Rattle.std.proofs.lemmas.Slice.Eq.{bytes_eq-Decides}
 use Rattle.std.proofs.lemmas.List.Elements.{All-push}
@@ -7,7 +7,7 @@ use Rattle.cdle_model.specs.declared.grammar.Sort.{Sort}
 use Rattle.cdle_model.specs.declared.grammar.Sort.TheVariants.{OfTerm}
 use Rattle.cdle_model.specs.Trees.{Tree, name}
 use Rattle.cdle_model.specs.Forms.{pi, allt, lam, xlam, Written, def_item, type_item, name_of}
-use Rattle.cdle_model.specs.Classes.{types, terms, within, Fits, item_sorts, IsOver, AreOver, AreItems}
+use Rattle.cdle_model.specs.Classes.{types, terms, within, Fits, item_sorts, IsOver, AreOver}
 use Rattle.cdle_model.specs.Depth.{depth}
 use Rattle.cdle_model.specs.Erasure.{erased}
 use Rattle.cdle_model.specs.Derivation.{Entry, term_of, type_of, item, signature}
@@ -95,9 +95,6 @@ pub record Standing (ws es rest : List Written) (tys : List Tree) (names : List 
   pub forms : AreFirstItems rest
   pub over : AreOver es rest
   pub known : AreTypes tys
-
-pub begun : (ws : List Written) (names : List ℕ → Option ℕ) → AreItems ws → AreFirstItems ws → ((q : List ℕ) → names q ≡ None) → Standing ws [] ws [] names
-begun ws names over forms none = record { types = refl; named = none; same = refl; done = tt; forms = forms; over = over; known = λ k d lt. absurd (omega arith) }
 
 pub counted : (ws es rest : List Written) (tys : List Tree) (names : List ℕ → Option ℕ) → Standing ws es rest tys names → length tys ≡ length es
 counted ws es rest tys names s = ap length s.types ∙ length_types es
