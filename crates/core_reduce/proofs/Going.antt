@@ -1,9 +1,8 @@
 -- The way of head reduction from a tree to its head form.
-use Rattle.std.proofs.Common.{◌≡◌, inl, inr, ℕ, ◌+◌, ◌≤◌, List, Ok, Err, sym, ◌∙◌, subst, refl, arith}
+use Rattle.std.proofs.Common.{◌≡◌, inl, inr, ℕ, ◌+◌, List, Ok, Err, sym, ◌∙◌, subst, refl, arith}
 use Rattle.std.specs.declared.result.Result.{Result}
 use Rattle.cdle_model.specs.declared.grammar.Sort.{Sort}
 use Rattle.cdle_model.specs.Trees.{Tree}
-use Rattle.cdle_model.specs.Depth.{depth}
 use Rattle.cdle_model.specs.Steps.{Step}
 use Rattle.cdle_model.specs.Fitting.{BodiesFit, IsErased}
 use Rattle.cdle_model.specs.Machine.{answered, spent, run}
@@ -44,7 +43,6 @@ module _ (xs : List Sort) (s : List Tree) (k : SideClass) where
     pub total : used + left ≡ old
     pub leads : Leads (head_move s) (at t) used (at (spine (root_tree h) ys))
     pub placed : IsPlaced m xs (class_trees k) (spine (root_tree h) ys)
-    pub low : depth (root_tree h) ≤ 65535
 
   pub going_on : BodiesFit xs s → (m : ℕ) (t : Tree) (old : ℕ) (h r : Root) (ys zs : List Arg) (left less : ℕ) → Going m t old h ys left → MeetsStep s k (root_tree h) ys left zs less (Ok r)
       → Going m t old r zs less
@@ -54,7 +52,6 @@ module _ (xs : List Sort) (s : List Tree) (k : SideClass) where
     total = (let a = g.total in let b = u.units in omega arith);
     leads = subst (λ z. Leads (head_move s) (at t) g.used (at z)) (sym u.is) g.leads;
     placed = subst (IsPlaced m xs (class_trees k)) (sym u.is) g.placed;
-    low = (let a = g.low in let b = u.smaller in omega arith);
   }
   going_on w m t old h r ys zs left less g (c, inr u) = record {
     class = c;
@@ -62,7 +59,6 @@ module _ (xs : List Sort) (s : List Tree) (k : SideClass) where
     total = (let a = g.total in let b = u.units in omega arith);
     leads = (let e = u.is in leads_on (head_move s) _ _ _ g.used 1 g.leads (leads_one (head_move s) (at (spine (root_tree h) ys)) (at (spine (root_tree r) zs)) (rw e refl)));
     placed = placed_step w m (spine (root_tree h) ys) (spine (root_tree r) zs) u.is g.placed;
-    low = u.low;
   }
 
   pub going_form : (m : ℕ) (t : Tree) (old : ℕ) (h : Root) (ys : List Arg) (left : ℕ) (x : Value) → Going m t old h ys left → head_step s (spine (root_tree h) ys) ≡ none

@@ -34,6 +34,10 @@ root_tree (r.Pure p) = p
 root_tree (r.Guide p) = p
 root_tree (r.Kind p) = p
 
+-- a root without arguments
+abbrev pub sided : Root → Sided
+sided r = record { class = root_class r; tree = root_tree r }
+
 abbrev pub arg_function : Arg → Function
 arg_function (a.Ap p) = of_pure
 arg_function (a.At p) = of_term

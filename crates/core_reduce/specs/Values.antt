@@ -9,7 +9,8 @@ use Rattle.core_reduce.specs.declared.value.Former.{Former}
 use Rattle.core_reduce.specs.declared.value.Former.TheVariants as f
 use Rattle.core_reduce.specs.declared.value.Value.{Value}
 use Rattle.core_reduce.specs.declared.value.Value.TheVariants as v
-use Rattle.core_reduce.specs.Sides.{Sided}
+use Rattle.core_reduce.specs.declared.root.Root.{Root}
+use Rattle.core_reduce.specs.Sides.{Sided, sided}
 
 -- by what a tree of the first class is applied to one of the second
 abbrev pub applied_by : SideClass → SideClass → Function
@@ -92,7 +93,7 @@ value_tree k (v.Former x ps) = former_tree x ps.items
 abbrev pub StandsFor : SideClass → Value → Tree → Type 0
 StandsFor k v t = IsValueOf k v × (value_tree k v ≡ t)
 
--- one more form may stand over the tree, or it is too deep for that
-abbrev pub IsPart : Tree → Option Tree → Type 0
-IsPart t (Some r) = (r ≡ t) × (depth t < 4096)
-IsPart t None = 4096 ≤ depth t
+-- what stands for the tree as one, where one more form may stand over it
+abbrev pub IsPart : Sided → Option Root → Type 0
+IsPart s (Some r) = (sided r ≡ s) × (depth s.tree < 4096)
+IsPart s None = 4096 ≤ depth s.tree

@@ -57,8 +57,6 @@ fn applied_variable(alloc: Global, index: u32, args: &Vec<Side>) -> Result<Side,
     'raised: while k > 0 {
         k -= 1;
         let arg = args[k].flat_pure(alloc)?;
-        // Asked for its bound alone.
-        let _depth = arg.depth();
         let raised = arg.shift(alloc, 0, 1)?;
         raised.known();
         all.push(Arg::Ap(raised))?;

@@ -8,6 +8,7 @@ pub struct Budget {
 }
 
 impl Budget {
+    /// A budget of so many units. One is taken by each contraction, each unfolding and each pair that is compared.
     pub fn new(units: u64) -> Budget
         ensures { result.left ≡ units }
     {

@@ -43,6 +43,7 @@ impl Model for CheckedItems {
 }
 
 impl CheckedItems {
+    /// No items yet. It takes no memory.
     pub fn new(alloc: Global) -> CheckedItems
         ensures { result ≡ [] }
     {

@@ -1,11 +1,13 @@
 //! Head forms as trees.
-ghost use Rattle.std.specs.Prelude.{◌≡◌, ◌∷◌, [], IfOk};
-ghost use Rattle.cdle_model.specs.Forms.{ap, eq, fn, kpi, kpit, all, allt, at_, guide_tlam, guide_xtlam, iota, on, pi};
+ghost use Rattle.std.specs.Prelude.{◌≡◌, ◌<◌, ◌∷◌, [], IfOk};
+ghost use Rattle.cdle_model.specs.Depth.{depth};
+ghost use Rattle.cdle_model.specs.Forms.{fn};
 ghost use Rattle.cdle_model.specs.Trees.{apply, var};
-ghost use Rattle.core_reduce.specs.Sides.{IsKept};
+ghost use Rattle.core_reduce.specs.Sides.{IsKept, root_class, root_tree, sided};
 ghost use Rattle.core_reduce.specs.Values.{AreArguments, IsArgument, IsPart, IsValueOf, applied_by, applied_to, classes, former_class, former_parts, former_tree, value_tree};
 ghost use Rattle.core_reduce.specs.declared.side.SideClass.TheVariants.{OfPure, OfType, OfKind};
 
+use crate::root::Root;
 use crate::side::{Side, SideClass};
 use crate::value::{Former, Value};
 use cdle_model::NoMemory;
@@ -54,50 +56,47 @@ fn function(alloc: Global, body: &Side) -> Result<Kept<Pure>, NoMemory>
     requires { body.now.class ≡ OfPure }
     ensures { IfOk result (λ k. IsKept (fn body.now.tree) k) }
 {
-    let Some(body) = pure_part(alloc, body)? else {
+    let Some(body) = part(alloc, body)? else {
         return Ok(Kept::Deep)
     };
-    Ok(Kept::Whole(Pure::function(alloc, &body)?))
+    Ok(Kept::Whole(Pure::function(alloc, body.pure())?))
 }
 
-/// The part as one tree, unless it is too deep for one more form over it.
-fn pure_part(alloc: Global, part: &Side) -> Result<Option<Pure>, NoMemory>
-    requires { part.now.class ≡ OfPure }
-    ensures { IfOk result (λ o. IsPart part.now.tree o) }
+/// The side as one tree, unless it is too deep for one more form over it.
+fn part(alloc: Global, side: &Side) -> Result<Option<Root>, NoMemory>
+    ensures { IfOk result (λ o. IsPart side.now o) }
 {
-    let Kept::Whole(tree) = part.tree_pure(alloc)? else {
-        return Ok(None)
-    };
-    if tree.depth() >= 4096 {
-        return Ok(None);
+    match side.class() {
+        SideClass::OfPure => {
+            let Kept::Whole(tree) = side.tree_pure(alloc)? else {
+                return Ok(None)
+            };
+            Ok(low(Root::Pure(tree)))
+        }
+        SideClass::OfType => {
+            let Kept::Whole(tree) = side.tree_guide(alloc)? else {
+                return Ok(None)
+            };
+            Ok(low(Root::Guide(tree)))
+        }
+        SideClass::OfKind => {
+            let Kept::Whole(tree) = side.tree_kind()? else {
+                return Ok(None)
+            };
+            Ok(low(Root::Kind(tree)))
+        }
     }
-    Ok(Some(tree))
 }
 
-fn guide_part(alloc: Global, part: &Side) -> Result<Option<Guide>, NoMemory>
-    requires { part.now.class ≡ OfType }
-    ensures { IfOk result (λ o. IsPart part.now.tree o) }
+/// The tree, unless it is too deep for one more form over it.
+fn low(tree: Root) -> Option<Root>
+    ensures { IsPart (sided tree) result }
 {
-    let Kept::Whole(tree) = part.tree_guide(alloc)? else {
-        return Ok(None)
-    };
-    if tree.depth() >= 4096 {
-        return Ok(None);
+    if tree.depth() < 4096 {
+        Some(tree)
+    } else {
+        None
     }
-    Ok(Some(tree))
-}
-
-fn kind_part(alloc: Global, part: &Side) -> Result<Option<GuideKind>, NoMemory>
-    requires { part.now.class ≡ OfKind }
-    ensures { IfOk result (λ o. IsPart part.now.tree o) }
-{
-    let Kept::Whole(tree) = part.tree_kind(alloc)? else {
-        return Ok(None)
-    };
-    if tree.depth() >= 4096 {
-        return Ok(None);
-    }
-    Ok(Some(tree))
 }
 
 fn pure_variable(alloc: Global, index: u32, args: &Vec<Side>) -> Result<Kept<Pure>, NoMemory>
@@ -107,16 +106,26 @@ fn pure_variable(alloc: Global, index: u32, args: &Vec<Side>) -> Result<Kept<Pur
     let mut tree = Pure::var(alloc, index)?;
     let mut k = 0;
     'build: while k < args.len() {
-        let Some(arg) = pure_part(alloc, &args[k])? else {
-            return Ok(Kept::Deep)
-        };
-        if tree.depth() >= 4096 {
+        let Kept::Whole(next) = pure_applied(alloc, &tree, &args[k])? else {
             return Ok(Kept::Deep);
-        }
-        tree = Pure::ap(alloc, &tree, &arg)?;
+        };
+        tree = next;
         k += 1;
     }
     Ok(Kept::Whole(tree))
+}
+
+fn pure_applied(alloc: Global, head: &Pure, arg: &Side) -> Result<Kept<Pure>, NoMemory>
+    requires { IsArgument OfPure arg.now.class }
+    ensures { IfOk result (λ k. IsKept (apply (applied_by OfPure arg.now.class) head.now arg.now.tree) k) }
+{
+    if head.depth() >= 4096 {
+        return Ok(Kept::Deep);
+    }
+    let Some(arg) = part(alloc, arg)? else {
+        return Ok(Kept::Deep)
+    };
+    Ok(Kept::Whole(Pure::ap(alloc, head, arg.pure())?))
 }
 
 fn guide_variable(alloc: Global, index: u32, args: &Vec<Side>) -> Result<Kept<Guide>, NoMemory>
@@ -142,167 +151,14 @@ fn guide_applied(alloc: Global, head: &Guide, arg: &Side) -> Result<Kept<Guide>,
     if head.depth() >= 4096 {
         return Ok(Kept::Deep);
     }
-    match arg.class() {
-        SideClass::OfPure => {
-            let Some(arg) = pure_part(alloc, arg)? else {
-                return Ok(Kept::Deep)
-            };
-            Ok(Kept::Whole(Guide::at(alloc, head, &arg)?))
-        }
-        SideClass::OfType => {
-            let Some(arg) = guide_part(alloc, arg)? else {
-                return Ok(Kept::Deep)
-            };
-            Ok(Kept::Whole(Guide::on(alloc, head, &arg)?))
-        }
-        SideClass::OfKind => unreachable!(),
+    let Some(arg) = part(alloc, arg)? else {
+        return Ok(Kept::Deep)
+    };
+    match &arg {
+        Root::Pure(arg) => Ok(Kept::Whole(Guide::at(alloc, head, arg)?)),
+        Root::Guide(arg) => Ok(Kept::Whole(Guide::on(alloc, head, arg)?)),
+        Root::Kind(_) => unreachable!(),
     }
-}
-
-fn pi(alloc: Global, left: &Side, right: &Side) -> Result<Kept<Guide>, NoMemory>
-    requires left { left.now.class ≡ OfType }
-    requires right { right.now.class ≡ OfType }
-    ensures { IfOk result (λ k. IsKept (pi left.now.tree right.now.tree) k) }
-{
-    let Some(left) = guide_part(alloc, left)? else {
-        return Ok(Kept::Deep)
-    };
-    let Some(right) = guide_part(alloc, right)? else {
-        return Ok(Kept::Deep)
-    };
-    Ok(Kept::Whole(Guide::pi(alloc, &left, &right)?))
-}
-
-fn all(alloc: Global, left: &Side, right: &Side) -> Result<Kept<Guide>, NoMemory>
-    requires left { left.now.class ≡ OfType }
-    requires right { right.now.class ≡ OfType }
-    ensures { IfOk result (λ k. IsKept (all left.now.tree right.now.tree) k) }
-{
-    let Some(left) = guide_part(alloc, left)? else {
-        return Ok(Kept::Deep)
-    };
-    let Some(right) = guide_part(alloc, right)? else {
-        return Ok(Kept::Deep)
-    };
-    Ok(Kept::Whole(Guide::all(alloc, &left, &right)?))
-}
-
-fn allt(alloc: Global, left: &Side, right: &Side) -> Result<Kept<Guide>, NoMemory>
-    requires left { left.now.class ≡ OfKind }
-    requires right { right.now.class ≡ OfType }
-    ensures { IfOk result (λ k. IsKept (allt left.now.tree right.now.tree) k) }
-{
-    let Some(left) = kind_part(alloc, left)? else {
-        return Ok(Kept::Deep)
-    };
-    let Some(right) = guide_part(alloc, right)? else {
-        return Ok(Kept::Deep)
-    };
-    Ok(Kept::Whole(Guide::allt(alloc, &left, &right)?))
-}
-
-fn at(alloc: Global, left: &Side, right: &Side) -> Result<Kept<Guide>, NoMemory>
-    requires left { left.now.class ≡ OfType }
-    requires right { right.now.class ≡ OfPure }
-    ensures { IfOk result (λ k. IsKept (at_ left.now.tree right.now.tree) k) }
-{
-    let Some(left) = guide_part(alloc, left)? else {
-        return Ok(Kept::Deep)
-    };
-    let Some(right) = pure_part(alloc, right)? else {
-        return Ok(Kept::Deep)
-    };
-    Ok(Kept::Whole(Guide::at(alloc, &left, &right)?))
-}
-
-fn on(alloc: Global, left: &Side, right: &Side) -> Result<Kept<Guide>, NoMemory>
-    requires left { left.now.class ≡ OfType }
-    requires right { right.now.class ≡ OfType }
-    ensures { IfOk result (λ k. IsKept (on left.now.tree right.now.tree) k) }
-{
-    let Some(left) = guide_part(alloc, left)? else {
-        return Ok(Kept::Deep)
-    };
-    let Some(right) = guide_part(alloc, right)? else {
-        return Ok(Kept::Deep)
-    };
-    Ok(Kept::Whole(Guide::on(alloc, &left, &right)?))
-}
-
-fn iota(alloc: Global, left: &Side, right: &Side) -> Result<Kept<Guide>, NoMemory>
-    requires left { left.now.class ≡ OfType }
-    requires right { right.now.class ≡ OfType }
-    ensures { IfOk result (λ k. IsKept (iota left.now.tree right.now.tree) k) }
-{
-    let Some(left) = guide_part(alloc, left)? else {
-        return Ok(Kept::Deep)
-    };
-    let Some(right) = guide_part(alloc, right)? else {
-        return Ok(Kept::Deep)
-    };
-    Ok(Kept::Whole(Guide::iota(alloc, &left, &right)?))
-}
-
-fn eq(alloc: Global, left: &Side, right: &Side) -> Result<Kept<Guide>, NoMemory>
-    requires left { left.now.class ≡ OfPure }
-    requires right { right.now.class ≡ OfPure }
-    ensures { IfOk result (λ k. IsKept (eq left.now.tree right.now.tree) k) }
-{
-    let Some(left) = pure_part(alloc, left)? else {
-        return Ok(Kept::Deep)
-    };
-    let Some(right) = pure_part(alloc, right)? else {
-        return Ok(Kept::Deep)
-    };
-    Ok(Kept::Whole(Guide::eq(alloc, &left, &right)?))
-}
-
-fn kpi(alloc: Global, left: &Side, right: &Side) -> Result<Kept<GuideKind>, NoMemory>
-    requires left { left.now.class ≡ OfType }
-    requires right { right.now.class ≡ OfKind }
-    ensures { IfOk result (λ k. IsKept (kpi left.now.tree right.now.tree) k) }
-{
-    let Some(left) = guide_part(alloc, left)? else {
-        return Ok(Kept::Deep)
-    };
-    let Some(right) = kind_part(alloc, right)? else {
-        return Ok(Kept::Deep)
-    };
-    Ok(Kept::Whole(GuideKind::kpi(alloc, &left, &right)?))
-}
-
-fn kpit(alloc: Global, left: &Side, right: &Side) -> Result<Kept<GuideKind>, NoMemory>
-    requires left { left.now.class ≡ OfKind }
-    requires right { right.now.class ≡ OfKind }
-    ensures { IfOk result (λ k. IsKept (kpit left.now.tree right.now.tree) k) }
-{
-    let Some(left) = kind_part(alloc, left)? else {
-        return Ok(Kept::Deep)
-    };
-    let Some(right) = kind_part(alloc, right)? else {
-        return Ok(Kept::Deep)
-    };
-    Ok(Kept::Whole(GuideKind::kpit(alloc, &left, &right)?))
-}
-
-fn tlam(alloc: Global, part: &Side) -> Result<Kept<Guide>, NoMemory>
-    requires { part.now.class ≡ OfType }
-    ensures { IfOk result (λ k. IsKept (guide_tlam part.now.tree) k) }
-{
-    let Some(part) = guide_part(alloc, part)? else {
-        return Ok(Kept::Deep)
-    };
-    Ok(Kept::Whole(Guide::tlam(alloc, &part)?))
-}
-
-fn xtlam(alloc: Global, part: &Side) -> Result<Kept<Guide>, NoMemory>
-    requires { part.now.class ≡ OfType }
-    ensures { IfOk result (λ k. IsKept (guide_xtlam part.now.tree) k) }
-{
-    let Some(part) = guide_part(alloc, part)? else {
-        return Ok(Kept::Deep)
-    };
-    Ok(Kept::Whole(Guide::xtlam(alloc, &part)?))
 }
 
 fn guide_former(alloc: Global, former: Former, parts: &Vec<Side>) -> Result<Kept<Guide>, NoMemory>
@@ -311,18 +167,62 @@ fn guide_former(alloc: Global, former: Former, parts: &Vec<Side>) -> Result<Kept
     ensures { IfOk result (λ k. IsKept (former_tree former parts.now.items) k) }
 {
     match former {
-        Former::Pi => pi(alloc, &parts[0], &parts[1]),
-        Former::All => all(alloc, &parts[0], &parts[1]),
-        Former::Allt => allt(alloc, &parts[0], &parts[1]),
-        Former::Tlam => tlam(alloc, &parts[0]),
-        Former::Xtlam => xtlam(alloc, &parts[0]),
-        Former::At => at(alloc, &parts[0], &parts[1]),
-        Former::On => on(alloc, &parts[0], &parts[1]),
-        Former::Iota => iota(alloc, &parts[0], &parts[1]),
-        Former::Eq => eq(alloc, &parts[0], &parts[1]),
-        Former::Star => unreachable!(),
-        Former::Kpi => unreachable!(),
-        Former::Kpit => unreachable!(),
+        Former::Tlam | Former::Xtlam => guide_of_one(alloc, former, &parts[0]),
+        _ => guide_of_two(alloc, former, &parts[0], &parts[1]),
+    }
+}
+
+fn guide_of_one(alloc: Global, former: Former, body: &Side) -> Result<Kept<Guide>, NoMemory>
+    requires class { former_class former ≡ OfType }
+    requires parts { former_parts former ≡ body.now.class ∷ [] }
+    ensures { IfOk result (λ k. IsKept (former_tree former (body.now ∷ [])) k) }
+{
+    let Some(body) = part(alloc, body)? else {
+        return Ok(Kept::Deep)
+    };
+    match former {
+        Former::Tlam => Ok(Kept::Whole(Guide::tlam(alloc, body.guide())?)),
+        Former::Xtlam => Ok(Kept::Whole(Guide::xtlam(alloc, body.guide())?)),
+        _ => unreachable!(),
+    }
+}
+
+fn guide_of_two(
+    alloc: Global,
+    former: Former,
+    left: &Side,
+    right: &Side,
+) -> Result<Kept<Guide>, NoMemory>
+    requires class { former_class former ≡ OfType }
+    requires parts { former_parts former ≡ left.now.class ∷ right.now.class ∷ [] }
+    ensures { IfOk result (λ k. IsKept (former_tree former (left.now ∷ right.now ∷ [])) k) }
+{
+    let Some(left) = part(alloc, left)? else {
+        return Ok(Kept::Deep)
+    };
+    let Some(right) = part(alloc, right)? else {
+        return Ok(Kept::Deep)
+    };
+    Ok(Kept::Whole(guide_over(alloc, former, &left, &right)?))
+}
+
+/// The form over two trees.
+fn guide_over(alloc: Global, former: Former, left: &Root, right: &Root) -> Result<Guide, NoMemory>
+    requires class { former_class former ≡ OfType }
+    requires parts { former_parts former ≡ root_class left.now ∷ root_class right.now ∷ [] }
+    requires left { depth (root_tree left.now) < 4096 }
+    requires right { depth (root_tree right.now) < 4096 }
+    ensures { IfOk result (λ t. t ≡ former_tree former (sided left.now ∷ sided right.now ∷ [])) }
+{
+    match former {
+        Former::Pi => Guide::pi(alloc, left.guide(), right.guide()),
+        Former::All => Guide::all(alloc, left.guide(), right.guide()),
+        Former::Allt => Guide::allt(alloc, left.kind(), right.guide()),
+        Former::At => Guide::at(alloc, left.guide(), right.pure()),
+        Former::On => Guide::on(alloc, left.guide(), right.guide()),
+        Former::Iota => Guide::iota(alloc, left.guide(), right.guide()),
+        Former::Eq => Guide::eq(alloc, left.pure(), right.pure()),
+        _ => unreachable!(),
     }
 }
 
@@ -337,8 +237,29 @@ fn kind_former(
 {
     match former {
         Former::Star => Ok(Kept::Whole(GuideKind::star(alloc)?)),
-        Former::Kpi => kpi(alloc, &parts[0], &parts[1]),
-        Former::Kpit => kpit(alloc, &parts[0], &parts[1]),
+        _ => kind_of_two(alloc, former, &parts[0], &parts[1]),
+    }
+}
+
+fn kind_of_two(
+    alloc: Global,
+    former: Former,
+    left: &Side,
+    right: &Side,
+) -> Result<Kept<GuideKind>, NoMemory>
+    requires class { former_class former ≡ OfKind }
+    requires parts { former_parts former ≡ left.now.class ∷ right.now.class ∷ [] }
+    ensures { IfOk result (λ k. IsKept (former_tree former (left.now ∷ right.now ∷ [])) k) }
+{
+    let Some(left) = part(alloc, left)? else {
+        return Ok(Kept::Deep)
+    };
+    let Some(right) = part(alloc, right)? else {
+        return Ok(Kept::Deep)
+    };
+    match former {
+        Former::Kpi => Ok(Kept::Whole(GuideKind::kpi(alloc, left.guide(), right.kind())?)),
+        Former::Kpit => Ok(Kept::Whole(GuideKind::kpit(alloc, left.kind(), right.kind())?)),
         _ => unreachable!(),
     }
 }

@@ -1,7 +1,6 @@
 //! Bringing a side to its head form.
 ghost use Rattle.std.specs.Prelude.{◌≡◌, ◌++◌, ◌<◌, ◌≤◌, ◌∷◌, [], IfOk, IsFalse, IsTrue, List, drop, length};
 ghost use Rattle.cdle_model.specs.Classes.{Fits, UsedAs, guides, item_sorts, pure_terms, within};
-ghost use Rattle.cdle_model.specs.Depth.{depth};
 ghost use Rattle.cdle_model.specs.Derivation.{bodies, signature};
 ghost use Rattle.cdle_model.specs.Forms.{fn, guide_tlam, guide_xtlam};
 ghost use Rattle.cdle_model.specs.Trees.{IsBelow, Tree, name};
@@ -71,8 +70,6 @@ pub fn head(
     ensures so { HeadSo (bodies (signature items.now)) at.now.class at.now.tree budget.old.left result }
     ensures less { budget.new.left ≤ budget.old.left }
 {
-    // Asked for its bound alone, which the loop keeps.
-    let _depth = at.head.depth();
     if is_still(&at.head, &at.args, at.from) {
         return Ok(value_of(alloc, &at.head, &at.args, at.from)?);
     }
@@ -159,7 +156,6 @@ fn reduce(
     budget: &mut Budget,
 ) -> Result<Value, Stop>
     requires placed { IsPlaced 4250000000 (item_sorts items.now) (class_trees (root_class now)) (spine (root_tree now) args.items) }
-    requires low { depth (root_tree now) ≤ 65535 }
     ensures form { MeetsHead (bodies (signature items.now)) (root_class now) (spine (root_tree now) args.items) budget.old.left budget.new.left result }
     ensures less { budget.new.left ≤ budget.old.left }
 {
@@ -282,8 +278,7 @@ fn unfold(items: &CheckedItems, item: u32, budget: &mut Budget) -> Result<Root, 
     if !budget.take() {
         return Err(Stop::Spent);
     }
-    // Asked for its bound alone.
-    let _depth = body.depth();
+    body.known();
     Ok(body.share()?)
 }
 

@@ -1,7 +1,8 @@
 //! Heads and arguments of sides.
 ghost use Rattle.std.specs.Prelude.{◌≡◌, ◌≤◌, IfOk};
 ghost use Rattle.cdle_model.specs.Depth.{depth};
-ghost use Rattle.core_reduce.specs.Sides.{arg_tree, name_of, root_tree};
+ghost use Rattle.core_reduce.specs.Sides.{arg_tree, name_of, root_class, root_tree};
+ghost use Rattle.core_reduce.specs.declared.side.SideClass.TheVariants.{OfPure, OfType, OfKind};
 
 use cdle_model::NoMemory;
 use core_tree::{Guide, GuideForm, GuideKind, Pure, PureForm};
@@ -23,6 +24,39 @@ pub(crate) enum Arg {
 }
 
 impl Root {
+    /// The tree of a pure term.
+    pub(crate) fn pure(&self) -> &Pure
+        requires { root_class self.now ≡ OfPure }
+        ensures { result.now ≡ root_tree self.now }
+    {
+        match self {
+            Root::Pure(term) => term,
+            _ => unreachable!(),
+        }
+    }
+
+    /// The tree of an erased type.
+    pub(crate) fn guide(&self) -> &Guide
+        requires { root_class self.now ≡ OfType }
+        ensures { result.now ≡ root_tree self.now }
+    {
+        match self {
+            Root::Guide(guide) => guide,
+            _ => unreachable!(),
+        }
+    }
+
+    /// The tree of an erased kind.
+    pub(crate) fn kind(&self) -> &GuideKind
+        requires { root_class self.now ≡ OfKind }
+        ensures { result.now ≡ root_tree self.now }
+    {
+        match self {
+            Root::Kind(kind) => kind,
+            _ => unreachable!(),
+        }
+    }
+
     /// The same tree, sharing its nodes.
     pub(crate) fn share(&self) -> Result<Root, NoMemory>
         ensures { IfOk result (λ r. r ≡ self.now) }
@@ -32,6 +66,13 @@ impl Root {
             Root::Guide(guide) => Ok(Root::Guide(guide.clone()?)),
             Root::Kind(kind) => Ok(Root::Kind(kind.clone()?)),
         }
+    }
+
+    /// Tells a proof how deep the tree is at most.
+    pub(crate) fn known(&self)
+        ensures { depth (root_tree self.now) ≤ 65535 }
+    {
+        let _ = self.depth();
     }
 
     pub(crate) fn depth(&self) -> u32

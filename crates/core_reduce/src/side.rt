@@ -53,6 +53,7 @@ impl Side {
         Side::whole_pure(alloc, term.erase(alloc)?)
     }
 
+    /// The pure term itself, whose node is shared.
     pub fn of_pure(alloc: Global, term: &Pure) -> Result<Side, NoMemory>
         ensures { IfOk result (λ s. s ≡ record { class = OfPure; tree = term.now }) }
     {
@@ -67,6 +68,7 @@ impl Side {
         Side::whole_guide(alloc, ty.erase(alloc)?)
     }
 
+    /// The erased type itself, whose node is shared.
     pub fn of_guide(alloc: Global, guide: &Guide) -> Result<Side, NoMemory>
         ensures { IfOk result (λ s. s ≡ record { class = OfType; tree = guide.now }) }
     {
@@ -81,6 +83,7 @@ impl Side {
         Side::whole_kind(alloc, kind.erase(alloc)?)
     }
 
+    /// The erased kind itself, whose node is shared.
     pub fn of_guide_kind(alloc: Global, kind: &GuideKind) -> Result<Side, NoMemory>
         ensures { IfOk result (λ s. s ≡ record { class = OfKind; tree = kind.now }) }
     {
@@ -149,10 +152,7 @@ impl Side {
         requires { self.now.class ≡ OfPure }
         ensures { IfOk result (λ t. t ≡ self.now.tree) }
     {
-        match &self.head {
-            Root::Pure(head) => flat_spine(alloc, head, &self.args, self.from),
-            _ => unreachable!(),
-        }
+        flat_spine(alloc, self.head.pure(), &self.args, self.from)
     }
 
     /// The item's number, where the side is a name.
@@ -165,6 +165,7 @@ impl Side {
         self.head.name()
     }
 
+    /// What the side stands for, which stays the same through all of its steps.
     pub fn class(&self) -> SideClass
         ensures { result ≡ self.now.class }
     {
@@ -180,10 +181,7 @@ impl Side {
         requires { self.now.class ≡ OfPure }
         ensures { IfOk result (λ k. IsKept self.now.tree k) }
     {
-        match &self.head {
-            Root::Pure(head) => pure_spine(alloc, head, &self.args, self.from),
-            _ => unreachable!(),
-        }
+        pure_spine(alloc, self.head.pure(), &self.args, self.from)
     }
 
     /// The erased type as one tree.
@@ -191,20 +189,14 @@ impl Side {
         requires { self.now.class ≡ OfType }
         ensures { IfOk result (λ k. IsKept self.now.tree k) }
     {
-        match &self.head {
-            Root::Guide(head) => guide_spine(alloc, head, &self.args, self.from),
-            _ => unreachable!(),
-        }
+        guide_spine(alloc, self.head.guide(), &self.args, self.from)
     }
 
     /// The erased kind as one tree.
-    pub fn tree_kind(&self, _alloc: Global) -> Result<Kept<GuideKind>, NoMemory>
+    pub fn tree_kind(&self) -> Result<Kept<GuideKind>, NoMemory>
         requires { self.now.class ≡ OfKind }
         ensures { IfOk result (λ k. IsKept self.now.tree k) }
     {
-        match &self.head {
-            Root::Kind(head) => kind_tree(head, &self.args, self.from),
-            _ => unreachable!(),
-        }
+        kind_tree(self.head.kind(), &self.args, self.from)
     }
 }

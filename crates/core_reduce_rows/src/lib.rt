@@ -145,7 +145,7 @@ fn written_sides(alloc: Global) -> Result<bool, NoMemory> {
     let Kept::Whole(guide) = ty.tree_guide(alloc)? else {
         return Ok(false);
     };
-    let Kept::Whole(guide_kind) = kind.tree_kind(alloc)? else {
+    let Kept::Whole(guide_kind) = kind.tree_kind()? else {
         return Ok(false);
     };
     Ok(

@@ -1,4 +1,4 @@
-use Rattle.std.proofs.Common.{◌∙◌, ap, arith}
+use Rattle.std.proofs.Common.{◌∙◌, ap}
 use Rattle.cdle_model.specs.Derivation.{bodies, signature}
 use Rattle.core_reduce.specs.Sides.{root_class, root_tree}
 use Rattle.core_reduce.proofs.Steps.{none_left, unfolds, name_halts}
@@ -11,8 +11,7 @@ returns-then-not-take-clause-step c k vs xs h =
 
 pub returns-clause-step : goal.returns-clause-step
 returns-clause-step c k vs xs h =
-    let i = c.depth-depth.ensures.is in let l = c.depth-depth.ensures.bounded in
     unfolds (bodies (signature c.args.items.now)) k c.args.item xs c.args.budget.now.left c.take.new.self.left (root_tree c.body-body.result.now) c.in_ok-share.field-0
-    c.body-body.ensures.is (c.take.ensures.taken c.if-not-take.false) (omega arith)
+    c.body-body.ensures.is (c.take.ensures.taken c.if-not-take.false) c.known.ensures
     (ap root_class c.in_ok-share.ensures ∙ name_class vs c.args.items.now k (root_class c.body-body.result.now) c.args.item h c.body-body.ensures.class)
     (ap root_tree c.in_ok-share.ensures)
