@@ -85,7 +85,7 @@ args_so k t (x ∷ xs) v =
     let r = args_so k (apply c t x.tree) xs (subst IsVariable (sym e) tt) in
     record {
       head = r.head ∙ ap (λ h. args_head k h xs) e;
-      parts = r.parts ∙ (ap (λ z. z ++ trees xs) g ∙ append_assoc);
+      parts = r.parts ∙ (ap (λ z. z ++ trees xs) g ∙ append_assoc (parts_of t) (x.tree ∷ []) (trees xs));
     }
 
 pub args_other : (k : SideClass) (t : Tree) (xs : List Sided) → function_of t ≡ None → function_of (applied_to k t xs) ≡ None

@@ -5,7 +5,7 @@ ghost use Rattle.core_compare.specs.Pairs.{AreForms, MeetsSettle, part_pairs};
 
 use crate::pairs::SidePair;
 use cdle_model::NoMemory;
-use core_reduce::{Side, Value};
+use core_reduce::{Former, Side, Value};
 use std::alloc::Global;
 
 /// Puts the pairs in place of two head forms on the list; false where the two differ.
@@ -33,14 +33,17 @@ pub(crate) fn settle(
             Ok(true)
         }
         (Value::Var { var: i, args: xs }, Value::Var { var: j, args: ys }) => {
-            if *i != *j || !same_classes(xs, ys) {
+            if *i != *j {
+                return Ok(false);
+            }
+            if !same_classes(xs, ys) {
                 return Ok(false);
             }
             put_parts(xs, ys, binders, pairs)?;
             Ok(true)
         }
         (Value::Former { former: f, parts: ps }, Value::Former { former: g, parts: qs }) => {
-            if *f != *g {
+            if !same_former(*f, *g) {
                 return Ok(false);
             }
             let binders = one_more(binders)?;
@@ -91,12 +94,24 @@ fn same_classes(xs: &Vec<Side>, ys: &Vec<Side>) -> bool
     }
     let mut k = 0;
     'compared: while k < xs.len() {
-        if xs[k].class() != ys[k].class() {
+        if !same_class(&xs[k], &ys[k]) {
             return false;
         }
         k += 1;
     }
     true
+}
+
+fn same_class(x: &Side, y: &Side) -> bool
+    ensures { IsTrue result ↔ x.now.class ≡ y.now.class }
+{
+    x.class() == y.class()
+}
+
+fn same_former(x: Former, y: Former) -> bool
+    ensures { IsTrue result ↔ x ≡ y }
+{
+    x == y
 }
 
 /// Puts the pairs of parts on the list, the last first, so that the first is the next.
