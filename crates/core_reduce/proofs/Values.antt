@@ -1,13 +1,17 @@
 -- Head forms as values.
-use Rattle.std.proofs.Common.{◌≡◌, ℕ, zero, suc, ◌<◌, ◌≤◌, List, [], ◌∷◌, ◌++◌, length, get_or, drop, sym, ◌∙◌, subst, refl, arith}
-use Rattle.cdle_model.specs.Trees.{of_pure, Tree, var, fun, apply}
+use Rattle.std.proofs.Common.{◌≡◌, ℕ, zero, suc, ◌<◌, ◌≤◌, List, [], ◌∷◌, ◌++◌, Option, length, get_or, drop, sym, ◌∙◌, subst, refl, arith}
+use Rattle.cdle_model.specs.Trees.{Function, of_pure, Tree, var, name, leaf, unary, fun, apply, binary, bind}
 use Rattle.cdle_model.specs.Classes.{pure_terms, guides, guide_kinds, anything, Scope, Fits, IsOf}
+use Rattle.cdle_model.specs.Comparison.{Head, variable, constant, argument, applied_head, head_of}
+use Rattle.core_tree.specs.declared.guide.GuideForm.{GuideForm}
+use Rattle.core_tree.specs.declared.guide.GuideForm.TheVariants.{Var}
+use Rattle.core_tree.specs.Forms.{guide_tree}
 use Rattle.core_reduce.specs.declared.root.Arg.{Arg}
 use Rattle.core_reduce.specs.declared.root.Arg.TheVariants.{Ap, At, On}
 use Rattle.core_reduce.specs.declared.side.SideClass.{SideClass}
 use Rattle.core_reduce.specs.declared.side.SideClass.TheVariants.{OfPure, OfType, OfKind}
 use Rattle.core_reduce.specs.Sides.{Sided, class_trees, arg_function, arg_class, arg_tree, spine}
-use Rattle.core_reduce.specs.Values.{applied_by, applied_to, IsArgument, AreArguments}
+use Rattle.core_reduce.specs.Values.{applied_by, applied_to, IsArgument, AreArguments, IsOfForm}
 use Rattle.core_reduce.specs.Heads.{innermost, IsStill}
 use Rattle.core_reduce.proofs.Spines.{ArgFits, head_fits, spine_head, spine_at, argument_fits}
 
@@ -79,3 +83,28 @@ pub stuck_head : (h : Tree) (xs : List Arg) (from : ℕ) → IsOf guides (spine 
 stuck_head h [] from k l = absurd (omega arith)
 stuck_head h (x ∷ xs) zero k l = (head_fits anything OfType (spine h xs) x k).0
 stuck_head h (x ∷ xs) (suc from) k l = stuck_head h xs from k (omega arith)
+
+-- what has no step and is no variable is, with any arguments, of the form of a stuck application
+head_form_alone : (h : Tree) (o : Option Arg) → ((i : ℕ) → h ≡ var i → ⊥) → IsStill h o → IsOfForm (head_of h)
+head_form_alone (var i) o n k = absurd (n i refl)
+head_form_alone (name m) o n k = absurd k
+head_form_alone (leaf l) o n k = tt
+head_form_alone (unary j p) o n k = tt
+head_form_alone (fun c p) o n k = tt
+head_form_alone (apply c p q) o n k = absurd k
+head_form_alone (binary j p q) o n k = tt
+head_form_alone (bind f p q) o n k = tt
+
+pub no_variable : (g : GuideForm) → ((i : ℕ) → g ≡ Var i → ⊥) → (i : ℕ) → guide_tree g ≡ var i → ⊥
+no_variable (Var j) n i e = n j refl
+no_variable g n i e = let q : guide_tree g ≡ var i = e in cc
+
+form_applied : (c : Function) (h : Head) → IsOfForm h → IsOfForm (applied_head c h)
+form_applied c (variable i) k = k
+form_applied c (constant n) k = k
+form_applied c (argument d h) k = k
+form_applied c h k = tt
+
+pub stuck_form : (h : Tree) (o : Option Arg) (xs : List Arg) → ((i : ℕ) → h ≡ var i → ⊥) → IsStill h o → IsOfForm (head_of (spine h xs))
+stuck_form h o [] n k = head_form_alone h o n k
+stuck_form h o (x ∷ xs) n k = form_applied (arg_function x) (head_of (spine h xs)) (stuck_form h o xs n k)

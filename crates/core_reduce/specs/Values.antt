@@ -3,6 +3,7 @@ use Rattle.std.specs.Prelude.{◌≡◌, ◌<◌, ◌≤◌, List, [], ◌∷◌
 use Rattle.cdle_model.specs.Trees.{Function, of_pure, of_term, of_type, Tree, var, apply}
 use Rattle.cdle_model.specs.Forms.{star, kpi, kpit, pi, all, allt, guide_tlam, guide_xtlam, at_, on, iota, eq, fn}
 use Rattle.cdle_model.specs.Depth.{depth}
+use Rattle.cdle_model.specs.Comparison.{Head, variable, constant, argument, head_of}
 use Rattle.core_reduce.specs.declared.side.SideClass.{SideClass}
 use Rattle.core_reduce.specs.declared.side.SideClass.TheVariants.{OfPure, OfType, OfKind}
 use Rattle.core_reduce.specs.declared.value.Former.{Former}
@@ -89,9 +90,26 @@ value_tree k (v.Fun b) = fn b.tree
 value_tree k (v.Var i xs) = applied_to k (var i) xs.items
 value_tree k (v.Former x ps) = former_tree x ps.items
 
+-- a head that is no variable with arguments
+abbrev pub IsOfForm : Head → Type 0
+IsOfForm (variable i) = ⊥
+IsOfForm (constant n) = ⊥
+IsOfForm (argument c h) = ⊥
+IsOfForm h = Unit {0}
+
+-- a stuck application is not one of a variable, which is a value with all its arguments
+abbrev pub IsStuck : Former → List Sided → Type 0
+IsStuck f.At (x ∷ xs) = IsOfForm (head_of x.tree)
+IsStuck f.On (x ∷ xs) = IsOfForm (head_of x.tree)
+IsStuck x ps = Unit {0}
+
+abbrev pub IsWhole : Value → Type 0
+IsWhole (v.Former x ps) = IsStuck x ps.items
+IsWhole v = Unit {0}
+
 -- the value of the class stands for the tree
 abbrev pub StandsFor : SideClass → Value → Tree → Type 0
-StandsFor k v t = IsValueOf k v × (value_tree k v ≡ t)
+StandsFor k v t = IsValueOf k v × (value_tree k v ≡ t) × IsWhole v
 
 -- what stands for the tree as one, where one more form may stand over it
 abbrev pub IsPart : Sided → Option Root → Type 0

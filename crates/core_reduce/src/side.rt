@@ -90,6 +90,17 @@ impl Side {
         Side::whole_kind(alloc, kind.clone()?)
     }
 
+    /// The same side again, sharing its nodes.
+    pub fn copy(&self) -> Result<Side, NoMemory>
+        ensures { IfOk result (λ s. s ≡ self.now) }
+    {
+        Ok(Side {
+            head: self.head.share()?,
+            args: self.args.clone()?,
+            from: self.from,
+        })
+    }
+
     /// The argument as a side.
     pub(crate) fn of_arg(alloc: Global, arg: &Arg) -> Result<Side, NoMemory>
         ensures { IfOk result (λ s. s ≡ record { class = arg_class arg.now; tree = arg_tree arg.now }) }

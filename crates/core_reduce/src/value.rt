@@ -2,9 +2,10 @@
 ghost use Rattle.std.specs.Prelude.{◌≡◌, ◌<◌, ◌∷◌, ◌≤◌, [], IfOk, drop, get_or, length};
 ghost use Rattle.cdle_model.specs.Trees.{apply, of_pure, var};
 ghost use Rattle.cdle_model.specs.Classes.{IsOf, guides, pure_terms};
+ghost use Rattle.cdle_model.specs.Comparison.{head_of};
 ghost use Rattle.core_reduce.specs.Heads.{IsOther, IsStill, innermost};
 ghost use Rattle.core_reduce.specs.Sides.{arg_function, arg_tree, class_trees, root_class, root_tree, spine};
-ghost use Rattle.core_reduce.specs.Values.{StandsFor, former_class, former_parts, former_tree};
+ghost use Rattle.core_reduce.specs.Values.{IsOfForm, IsStuck, StandsFor, former_class, former_parts, former_tree};
 ghost use Rattle.core_reduce.specs.declared.side.SideClass.{SideClass};
 ghost use Rattle.core_reduce.specs.declared.side.SideClass.TheVariants.{OfPure, OfType, OfKind};
 
@@ -46,7 +47,8 @@ pub enum Value {
 
 /// A form without parts.
 fn no_parts(alloc: Global, former: Former) -> Value
-    requires { former_parts former ≡ [] }
+    requires parts { former_parts former ≡ [] }
+    requires stuck { IsStuck former [] }
     ensures { StandsFor (former_class former) result (former_tree former []) }
 {
     Value::Former {
@@ -57,7 +59,8 @@ fn no_parts(alloc: Global, former: Former) -> Value
 
 /// A form of one part.
 fn one_part(alloc: Global, former: Former, part: Side) -> Result<Value, NoMemory>
-    requires { former_parts former ≡ part.class ∷ [] }
+    requires parts { former_parts former ≡ part.class ∷ [] }
+    requires stuck { IsStuck former (part ∷ []) }
     ensures { IfOk result (λ v. StandsFor (former_class former) v (former_tree former (part ∷ []))) }
 {
     let mut parts = Vec::new(alloc);
@@ -67,7 +70,8 @@ fn one_part(alloc: Global, former: Former, part: Side) -> Result<Value, NoMemory
 
 /// A form of two parts.
 fn two_parts(alloc: Global, former: Former, left: Side, right: Side) -> Result<Value, NoMemory>
-    requires { former_parts former ≡ left.class ∷ right.class ∷ [] }
+    requires parts { former_parts former ≡ left.class ∷ right.class ∷ [] }
+    requires stuck { IsStuck former (left ∷ right ∷ []) }
     ensures { IfOk result (λ v. StandsFor (former_class former) v (former_tree former (left ∷ right ∷ []))) }
 {
     let mut parts = Vec::new(alloc);
@@ -161,6 +165,7 @@ fn argument(args: &Vec<Arg>, at: usize) -> &Arg
 /// An application that is stuck.
 fn stuck(alloc: Global, head: Side, arg: &Arg) -> Result<Value, NoMemory>
     requires head { head.class ≡ OfType }
+    requires form { IsOfForm (head_of head.tree) }
     requires arg { arg_function arg.now ≡ of_pure → ⊥ }
     ensures { IfOk result (λ v. StandsFor OfType v (apply (arg_function arg.now) head.tree (arg_tree arg.now))) }
 {
@@ -202,7 +207,8 @@ fn form_of(alloc: Global, now: &Guide) -> Result<Value, NoMemory>
 }
 
 fn two_guides(alloc: Global, former: Former, left: &Guide, right: &Guide) -> Result<Value, NoMemory>
-    requires { former_parts former ≡ OfType ∷ OfType ∷ [] }
+    requires parts { former_parts former ≡ OfType ∷ OfType ∷ [] }
+    requires stuck { IsStuck former (record { class = OfType; tree = left.now } ∷ record { class = OfType; tree = right.now } ∷ []) }
     ensures { IfOk result (λ v. StandsFor (former_class former) v (former_tree former (record { class = OfType; tree = left.now } ∷ record { class = OfType; tree = right.now } ∷ []))) }
 {
     two_parts(

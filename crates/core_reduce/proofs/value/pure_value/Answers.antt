@@ -13,4 +13,4 @@ returns-in_ok-of_pure-in-Function c =
     let ys = drop c.args.from c.args.args.now.items in
     let f : ys ≡ [] = function_alone anything c.in-Function.body ys (subst (λ z. IsOf pure_terms (spine z ys)) e c.requires.class) (subst (λ z. IsStill z (innermost ys)) e c.requires.still) in
     let q = c.in_ok-of_pure-in-Function.ensures in
-    rw (f, e, q) (refl, refl)
+    rw (f, e, q) (refl, refl, tt)

@@ -11,6 +11,6 @@ sides-preserved c =
     (omega arith) (omega arith) c.index.ensures c.in_ok-of_arg.ensures)
 
 pub returns : goal.returns
-returns c OfPure h = sides_end c.args.index c.args.args.now.items c.args.from c.sides.k c.sides.sides.items c.sides.invariant c.sides-test.false OfPure h
-returns c OfType h = sides_end c.args.index c.args.args.now.items c.args.from c.sides.k c.sides.sides.items c.sides.invariant c.sides-test.false OfType h
+returns c OfPure h = let e = sides_end c.args.index c.args.args.now.items c.args.from c.sides.k c.sides.sides.items c.sides.invariant c.sides-test.false OfPure h in (e.0, e.1, tt)
+returns c OfType h = let e = sides_end c.args.index c.args.args.now.items c.args.from c.sides.k c.sides.sides.items c.sides.invariant c.sides-test.false OfType h in (e.0, e.1, tt)
 returns c OfKind h = absurd (no_kind_variable c.args.index _ h)
