@@ -17,7 +17,7 @@ use Rattle.core_reduce.specs.Sides.{Sided, class_trees}
 use Rattle.core_reduce.specs.Values.{applied_by, applied_to, former_class, former_parts, former_tree, classes, IsArgument, AreArguments, value_tree}
 use Rattle.core_reduce.proofs.Scopes.{fits_below_bound}
 use Rattle.core_compare.specs.declared.pairs.SidePair.{SidePair}
-use Rattle.core_compare.specs.Pairs.{most, AreComparable, stack, part_pairs, IsForm, AreForms, SettledInto}
+use Rattle.core_compare.specs.Pairs.{AreComparable, stack, part_pairs, IsForm, AreForms, SettledInto}
 use Rattle.core_compare.proofs.Heads.{trees, split_same, split_differ, IsVariable, variable_against, args_other, variable_head, variable_trees, variables_one, variables_same, former_head, former_one, former_variable, former_so}
 use Rattle.core_compare.proofs.Stacks.{comparable_append, stack_append, parts_stacked, bound, PartsFit, few_binders, part_comparable, parts_comparable}
 
@@ -169,10 +169,11 @@ pub settled_variables : (n i j : ℕ) (xs ys : Vec Sided Global) (old new : List
 settled_variables n i j xs ys old new m e c a = record {
   parts = λ k g h.
       let u = variable_trees k i xs.items in let v = variable_trees k j ys.items in
-      let p : pairs_of (parts_of (applied_to k (var i) xs.items)) (parts_of (applied_to k (var j) ys.items)) ≡ pairs_of (trees xs.items) (trees ys.items) = (rw (u, v) refl) in
-      (pairs_of (trees xs.items) (trees ys.items),
-      split_same (applied_to k (var i) xs.items) (applied_to k (var j) ys.items) (args_other k (var i) xs.items refl) (args_other k (var j) ys.items refl) (variables_same k i j xs.items ys.items e c) ∙ ap into p,
-      parts_stacked n xs.items ys.items old new a);
+      let p : pairs_of (parts_of (applied_to k (var i) xs.items)) (parts_of (applied_to k (var j) ys.items)) ≡ pairs_of (trees xs.items) (trees ys.items) = (rw (u, v) refl) in (
+        pairs_of (trees xs.items) (trees ys.items),
+        split_same (applied_to k (var i) xs.items) (applied_to k (var j) ys.items) (args_other k (var i) xs.items refl) (args_other k (var j) ys.items refl) (variables_same k i j xs.items ys.items e c) ∙ ap into p,
+        parts_stacked n xs.items ys.items old new a,
+      );
   comparable = λ k zs g h o q.
       let f = o.few in
       subst (AreComparable zs) (sym a)
@@ -195,10 +196,11 @@ settled_formers n m x y ps qs old new r l e a = record {
   parts = λ k g h.
       let u = former_so x ps.items g.0.1 g.1 in let v = former_so y qs.items h.0.1 h.1 in
       let up = u.parts in let vp = v.parts in
-      let p : pairs_of (parts_of (former_tree x ps.items)) (parts_of (former_tree y qs.items)) ≡ pairs_of (trees ps.items) (trees qs.items) = (rw (up, vp) refl) in
-      (pairs_of (trees ps.items) (trees qs.items),
-      split_same (former_tree x ps.items) (former_tree y qs.items) u.other v.other (u.head ∙ (ap former_head e ∙ sym v.head)) ∙ ap into p,
-      parts_stacked m ps.items qs.items old new a);
+      let p : pairs_of (parts_of (former_tree x ps.items)) (parts_of (former_tree y qs.items)) ≡ pairs_of (trees ps.items) (trees qs.items) = (rw (up, vp) refl) in (
+        pairs_of (trees ps.items) (trees qs.items),
+        split_same (former_tree x ps.items) (former_tree y qs.items) u.other v.other (u.head ∙ (ap former_head e ∙ sym v.head)) ∙ ap into p,
+        parts_stacked m ps.items qs.items old new a,
+      );
   comparable = λ k zs g h o q.
       let f = o.few in let b = few_binders (former_binders x) in
       subst (AreComparable zs) (sym a)
@@ -236,6 +238,7 @@ pub forms_below : (n : ℕ) (v x : Value) → (g : AreForms n v x) → g.class �
 forms_below n v x g e =
     let p = g.placed in
     let f = p.few in
-    let l : length p.sorts ≤ 4290000000 = (let m = g.few in omega arith) in
-    (subst (λ c. IsBelow 4290000000 (value_tree c v)) e (fits_below_bound 4290000000 p.sorts g.items (class_trees g.class) (value_tree g.class v) l p.left),
-    subst (λ c. IsBelow 4290000000 (value_tree c x)) e (fits_below_bound 4290000000 p.sorts g.items (class_trees g.class) (value_tree g.class x) l p.right))
+    let l : length p.sorts ≤ 4290000000 = (let m = g.few in omega arith) in (
+      subst (λ c. IsBelow 4290000000 (value_tree c v)) e (fits_below_bound 4290000000 p.sorts g.items (class_trees g.class) (value_tree g.class v) l p.left),
+      subst (λ c. IsBelow 4290000000 (value_tree c x)) e (fits_below_bound 4290000000 p.sorts g.items (class_trees g.class) (value_tree g.class x) l p.right),
+    )

@@ -4,7 +4,7 @@ use Rattle.cdle_model.specs.declared.grammar.Sort.{Sort}
 use Rattle.cdle_model.specs.Trees.{Tree}
 use Rattle.cdle_model.specs.Machine.{run, spent}
 use Rattle.cdle_model.specs.HeadForms.{deep}
-use Rattle.cdle_model.specs.Comparison.{Pair, into, differ, split, halted, State, pairs, take_pair, move}
+use Rattle.cdle_model.specs.Comparison.{Pair, into, differ, split, halted, pairs, take_pair, move}
 use Rattle.core_reduce.specs.declared.side.SideClass.{SideClass}
 use Rattle.core_reduce.specs.declared.value.Value.{Value}
 use Rattle.core_reduce.specs.declared.reduce.Stop.{Stop}

@@ -42,7 +42,16 @@ pub(crate) fn settle(
             put_parts(xs, ys, binders, pairs)?;
             Ok(true)
         }
-        (Value::Former { former: f, parts: ps }, Value::Former { former: g, parts: qs }) => {
+        (
+            Value::Former {
+                former: f,
+                parts: ps,
+            },
+            Value::Former {
+                former: g,
+                parts: qs,
+            },
+        ) => {
             if !same_former(*f, *g) {
                 return Ok(false);
             }
