@@ -1,5 +1,5 @@
 -- Two head forms of one class: the pairs in place of them, where these stand, and where the two differ.
-use Rattle.std.proofs.Common.{◌≡◌, ℕ, ◌+◌, ◌≤◌, List, [], ◌∷◌, ◌++◌, length, Option, Some, None, Vec, Global, sym, ◌∙◌, subst, refl, ap, arith}
+use Rattle.std.proofs.Common.{◌≡◌, ℕ, Bool, true, false, IfOk, Result, Ok, Err, ◌+◌, ◌≤◌, List, [], ◌∷◌, ◌++◌, length, Option, Some, None, Vec, Global, sym, ◌∙◌, subst, refl, ap, arith}
 use Rattle.cdle_model.specs.declared.grammar.Sort.{Sort}
 use Rattle.cdle_model.specs.declared.grammar.Sort.TheVariants as so
 use Rattle.cdle_model.specs.Trees.{Tree, var, apply, IsBelow}
@@ -17,7 +17,7 @@ use Rattle.core_reduce.specs.Sides.{Sided, class_trees}
 use Rattle.core_reduce.specs.Values.{applied_by, applied_to, former_class, former_parts, former_tree, classes, IsArgument, AreArguments, value_tree}
 use Rattle.core_reduce.proofs.Scopes.{fits_below_bound}
 use Rattle.core_compare.specs.declared.pairs.SidePair.{SidePair}
-use Rattle.core_compare.specs.Pairs.{AreComparable, stack, part_pairs, IsForm, AreForms, SettledInto}
+use Rattle.core_compare.specs.Pairs.{AreComparable, stack, part_pairs, MeetsArguments, IsForm, AreForms, SettledInto, MeetsSettle}
 use Rattle.core_compare.proofs.Heads.{trees, split_same, split_differ, IsVariable, variable_against, args_other, variable_head, variable_trees, variables_one, variables_same, former_head, former_one, former_variable, former_so}
 use Rattle.core_compare.proofs.Stacks.{comparable_append, stack_append, parts_stacked, bound, PartsFit, few_binders, part_comparable, parts_comparable}
 
@@ -164,7 +164,7 @@ form_arguments OfPure i xs g = g.0
 form_arguments OfType i xs g = g.0
 form_arguments OfKind i xs g = absurd g.0
 
-pub settled_variables : (n i j : ℕ) (xs ys : Vec Sided Global) (old new : List SidePair) → n ≤ 40000000 → i ≡ j → classes xs.items ≡ classes ys.items
+settled_variables : (n i j : ℕ) (xs ys : Vec Sided Global) (old new : List SidePair) → n ≤ 40000000 → i ≡ j → classes xs.items ≡ classes ys.items
     → new ≡ old ++ part_pairs n xs.items ys.items → SettledInto n (w.Var i xs) (w.Var j ys) old new
 settled_variables n i j xs ys old new m e c a = record {
   parts = λ k g h.
@@ -187,6 +187,17 @@ pub variables_differ : (i j : ℕ) (xs ys : Vec Sided Global) → (i ≡ j → c
 variables_differ i j xs ys n k g h =
     split_differ (applied_to k (var i) xs.items) (applied_to k (var j) ys.items) (args_other k (var i) xs.items refl) (args_other k (var j) ys.items refl)
     (λ e. let r = variables_one k i j xs.items ys.items (form_arguments k i xs g) (form_arguments k j ys h) e in n r.0 r.1)
+
+-- the pairs of the arguments of one variable, or none where these differ
+settled_arguments : (n i j : ℕ) (xs ys : Vec Sided Global) (old new : List SidePair) (b : Bool) → n ≤ 40000000 → i ≡ j → MeetsArguments n xs.items ys.items old new b
+    → MeetsSettle n (w.Var i xs) (w.Var j ys) old new b
+settled_arguments n i j xs ys old new true m e h = settled_variables n i j xs ys old new m e h.0 h.1
+settled_arguments n i j xs ys old new false m e h = variables_differ i j xs ys (λ _. h)
+
+pub settled_by : {E : Type 0} (n i j : ℕ) (xs ys : Vec Sided Global) (old new : List SidePair) (r : Result Bool E) → n ≤ 40000000 → i ≡ j
+    → IfOk r (λ b. MeetsArguments n xs.items ys.items old new b) → IfOk r (λ b. MeetsSettle n (w.Var i xs) (w.Var j ys) old new b)
+settled_by n i j xs ys old new (Ok b) m e h = settled_arguments n i j xs ys old new b m e h
+settled_by n i j xs ys old new (Err z) m e h = tt
 
 -- ---- formers
 
