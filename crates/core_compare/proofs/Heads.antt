@@ -1,6 +1,6 @@
 -- Values as trees: their heads and their parts.
-use Rattle.std.proofs.Common.{◌≡◌, ◌⊎◌, inl, inr, ℕ, suc, ◌+◌, List, [], ◌∷◌, ◌++◌, length, Option, None, sym, ◌∙◌, subst, refl, ap, arith, append_assoc}
-use Rattle.cdle_model.specs.Trees.{Function, of_pure, of_term, of_type, eq_of, star_of, Binder, pi_of, all_of, allt_of, iota_of, kpi_of, kpit_of, Tree, var, apply}
+use Rattle.std.proofs.Common.{◌≡◌, ◌⊎◌, inl, inr, ℕ, suc, ◌+◌, List, [], ◌∷◌, ◌++◌, length, None, sym, ◌∙◌, subst, refl, ap, arith, append_assoc}
+use Rattle.cdle_model.specs.Trees.{Function, of_term, of_type, eq_of, star_of, pi_of, all_of, allt_of, iota_of, kpi_of, kpit_of, Tree, var, apply}
 use Rattle.cdle_model.specs.Comparison.{Head, variable, constant, argument, function, leaf_head, former, binary_head, stuck, applied_head, head_of, parts_by, parts_of, Pair, pairs_of, function_of, into, differ, same_heads, against, split}
 use Rattle.cdle_model.proofs.HeadParts.{count, same_heads-cases}
 use Rattle.core_reduce.specs.declared.side.SideClass.{SideClass}

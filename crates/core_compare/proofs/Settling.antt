@@ -1,5 +1,5 @@
 -- Two head forms of one class: the pairs in place of them, where these stand, and where the two differ.
-use Rattle.std.proofs.Common.{◌≡◌, ℕ, ◌+◌, ◌≤◌, List, [], ◌∷◌, ◌++◌, length, Option, Some, None, Vec, Global, sym, ◌∙◌, subst, refl, ap, arith}
+use Rattle.std.proofs.Common.{◌≡◌, ℕ, Bool, true, false, IfOk, Result, Ok, Err, ◌+◌, ◌≤◌, List, [], ◌∷◌, ◌++◌, length, Option, Some, None, Vec, Global, sym, ◌∙◌, subst, refl, ap, arith}
 use Rattle.cdle_model.specs.declared.grammar.Sort.{Sort}
 use Rattle.cdle_model.specs.declared.grammar.Sort.TheVariants as so
 use Rattle.cdle_model.specs.Trees.{Tree, var, apply, IsBelow}
@@ -17,7 +17,7 @@ use Rattle.core_reduce.specs.Sides.{Sided, class_trees}
 use Rattle.core_reduce.specs.Values.{applied_by, applied_to, former_class, former_parts, former_tree, classes, IsArgument, AreArguments, value_tree}
 use Rattle.core_reduce.proofs.Scopes.{fits_below_bound}
 use Rattle.core_compare.specs.declared.pairs.SidePair.{SidePair}
-use Rattle.core_compare.specs.Pairs.{most, AreComparable, stack, part_pairs, IsForm, AreForms, SettledInto}
+use Rattle.core_compare.specs.Pairs.{AreComparable, stack, part_pairs, MeetsArguments, IsForm, AreForms, SettledInto, MeetsSettle}
 use Rattle.core_compare.proofs.Heads.{trees, split_same, split_differ, IsVariable, variable_against, args_other, variable_head, variable_trees, variables_one, variables_same, former_head, former_one, former_variable, former_so}
 use Rattle.core_compare.proofs.Stacks.{comparable_append, stack_append, parts_stacked, bound, PartsFit, few_binders, part_comparable, parts_comparable}
 
@@ -164,15 +164,16 @@ form_arguments OfPure i xs g = g.0
 form_arguments OfType i xs g = g.0
 form_arguments OfKind i xs g = absurd g.0
 
-pub settled_variables : (n i j : ℕ) (xs ys : Vec Sided Global) (old new : List SidePair) → n ≤ 40000000 → i ≡ j → classes xs.items ≡ classes ys.items
+settled_variables : (n i j : ℕ) (xs ys : Vec Sided Global) (old new : List SidePair) → n ≤ 40000000 → i ≡ j → classes xs.items ≡ classes ys.items
     → new ≡ old ++ part_pairs n xs.items ys.items → SettledInto n (w.Var i xs) (w.Var j ys) old new
 settled_variables n i j xs ys old new m e c a = record {
   parts = λ k g h.
       let u = variable_trees k i xs.items in let v = variable_trees k j ys.items in
-      let p : pairs_of (parts_of (applied_to k (var i) xs.items)) (parts_of (applied_to k (var j) ys.items)) ≡ pairs_of (trees xs.items) (trees ys.items) = (rw (u, v) refl) in
-      (pairs_of (trees xs.items) (trees ys.items),
-      split_same (applied_to k (var i) xs.items) (applied_to k (var j) ys.items) (args_other k (var i) xs.items refl) (args_other k (var j) ys.items refl) (variables_same k i j xs.items ys.items e c) ∙ ap into p,
-      parts_stacked n xs.items ys.items old new a);
+      let p : pairs_of (parts_of (applied_to k (var i) xs.items)) (parts_of (applied_to k (var j) ys.items)) ≡ pairs_of (trees xs.items) (trees ys.items) = (rw (u, v) refl) in (
+        pairs_of (trees xs.items) (trees ys.items),
+        split_same (applied_to k (var i) xs.items) (applied_to k (var j) ys.items) (args_other k (var i) xs.items refl) (args_other k (var j) ys.items refl) (variables_same k i j xs.items ys.items e c) ∙ ap into p,
+        parts_stacked n xs.items ys.items old new a,
+      );
   comparable = λ k zs g h o q.
       let f = o.few in
       subst (AreComparable zs) (sym a)
@@ -187,6 +188,17 @@ variables_differ i j xs ys n k g h =
     split_differ (applied_to k (var i) xs.items) (applied_to k (var j) ys.items) (args_other k (var i) xs.items refl) (args_other k (var j) ys.items refl)
     (λ e. let r = variables_one k i j xs.items ys.items (form_arguments k i xs g) (form_arguments k j ys h) e in n r.0 r.1)
 
+-- the pairs of the arguments of one variable, or none where these differ
+settled_arguments : (n i j : ℕ) (xs ys : Vec Sided Global) (old new : List SidePair) (b : Bool) → n ≤ 40000000 → i ≡ j → MeetsArguments n xs.items ys.items old new b
+    → MeetsSettle n (w.Var i xs) (w.Var j ys) old new b
+settled_arguments n i j xs ys old new true m e h = settled_variables n i j xs ys old new m e h.0 h.1
+settled_arguments n i j xs ys old new false m e h = variables_differ i j xs ys (λ _. h)
+
+pub settled_by : {E : Type 0} (n i j : ℕ) (xs ys : Vec Sided Global) (old new : List SidePair) (r : Result Bool E) → n ≤ 40000000 → i ≡ j
+    → IfOk r (λ b. MeetsArguments n xs.items ys.items old new b) → IfOk r (λ b. MeetsSettle n (w.Var i xs) (w.Var j ys) old new b)
+settled_by n i j xs ys old new (Ok b) m e h = settled_arguments n i j xs ys old new b m e h
+settled_by n i j xs ys old new (Err z) m e h = tt
+
 -- ---- formers
 
 pub settled_formers : (n m : ℕ) (x y : Former) (ps qs : Vec Sided Global) (old new : List SidePair) → m ≡ n + 1 → m ≤ 40000000 → x ≡ y
@@ -195,10 +207,11 @@ settled_formers n m x y ps qs old new r l e a = record {
   parts = λ k g h.
       let u = former_so x ps.items g.0.1 g.1 in let v = former_so y qs.items h.0.1 h.1 in
       let up = u.parts in let vp = v.parts in
-      let p : pairs_of (parts_of (former_tree x ps.items)) (parts_of (former_tree y qs.items)) ≡ pairs_of (trees ps.items) (trees qs.items) = (rw (up, vp) refl) in
-      (pairs_of (trees ps.items) (trees qs.items),
-      split_same (former_tree x ps.items) (former_tree y qs.items) u.other v.other (u.head ∙ (ap former_head e ∙ sym v.head)) ∙ ap into p,
-      parts_stacked m ps.items qs.items old new a);
+      let p : pairs_of (parts_of (former_tree x ps.items)) (parts_of (former_tree y qs.items)) ≡ pairs_of (trees ps.items) (trees qs.items) = (rw (up, vp) refl) in (
+        pairs_of (trees ps.items) (trees qs.items),
+        split_same (former_tree x ps.items) (former_tree y qs.items) u.other v.other (u.head ∙ (ap former_head e ∙ sym v.head)) ∙ ap into p,
+        parts_stacked m ps.items qs.items old new a,
+      );
   comparable = λ k zs g h o q.
       let f = o.few in let b = few_binders (former_binders x) in
       subst (AreComparable zs) (sym a)
@@ -236,6 +249,7 @@ pub forms_below : (n : ℕ) (v x : Value) → (g : AreForms n v x) → g.class �
 forms_below n v x g e =
     let p = g.placed in
     let f = p.few in
-    let l : length p.sorts ≤ 4290000000 = (let m = g.few in omega arith) in
-    (subst (λ c. IsBelow 4290000000 (value_tree c v)) e (fits_below_bound 4290000000 p.sorts g.items (class_trees g.class) (value_tree g.class v) l p.left),
-    subst (λ c. IsBelow 4290000000 (value_tree c x)) e (fits_below_bound 4290000000 p.sorts g.items (class_trees g.class) (value_tree g.class x) l p.right))
+    let l : length p.sorts ≤ 4290000000 = (let m = g.few in omega arith) in (
+      subst (λ c. IsBelow 4290000000 (value_tree c v)) e (fits_below_bound 4290000000 p.sorts g.items (class_trees g.class) (value_tree g.class v) l p.left),
+      subst (λ c. IsBelow 4290000000 (value_tree c x)) e (fits_below_bound 4290000000 p.sorts g.items (class_trees g.class) (value_tree g.class x) l p.right),
+    )

@@ -1,12 +1,12 @@
 -- A pair that was taken: its head forms, and what becomes of them.
-use Rattle.std.proofs.Common.{◌≡◌, ℕ, ◌+◌, ◌≤◌, true, false, List, [], ◌∷◌, ◌++◌, Err, sym, ◌∙◌, subst, refl, ap, arith}
+use Rattle.std.proofs.Common.{◌≡◌, ℕ, ◌+◌, ◌≤◌, true, false, List, [], Err, sym, ◌∙◌, subst, refl, ap, arith}
 use Rattle.cdle_model.specs.declared.grammar.Sort.{Sort}
 use Rattle.cdle_model.specs.Trees.{Tree}
-use Rattle.cdle_model.specs.Classes.{TreeClass, within, Fits}
+use Rattle.cdle_model.specs.Classes.{within, Fits}
 use Rattle.cdle_model.specs.Fitting.{BodiesFit}
 use Rattle.cdle_model.specs.Machine.{stop, answered, spent, run}
-use Rattle.cdle_model.specs.HeadForms.{deep, value, head_form}
-use Rattle.cdle_model.specs.Comparison.{Pair, into, differ, split, apart, halted, pairs, taken, same_name, take_pair, move_pairs, move_split, move}
+use Rattle.cdle_model.specs.HeadForms.{deep}
+use Rattle.cdle_model.specs.Comparison.{Pair, differ, split, apart, halted, pairs, taken, same_name, take_pair, move_pairs, move_split, move}
 use Rattle.cdle_model.proofs.Runs.{stops}
 use Rattle.cdle_model.proofs.ClassSteps.{HeadFits, head-fits}
 use Rattle.core_reduce.specs.declared.side.SideClass.{SideClass}
@@ -19,7 +19,7 @@ use Rattle.core_reduce.specs.Heads.{IsHeadForm, MeetsHead}
 use Rattle.core_reduce.proofs.Going.{erased_class}
 use Rattle.core_reduce.proofs.Leads.{Leads, leads_on}
 use Rattle.core_compare.specs.declared.pairs.SidePair.{SidePair}
-use Rattle.core_compare.specs.Answers.{ArePlaced, Answers, AnswersApart}
+use Rattle.core_compare.specs.Answers.{ArePlaced, AnswersApart}
 use Rattle.core_compare.specs.Pairs.{most, stack, IsForm, AreForms, SettledInto, TurnOn, MeetsTurn}
 use Rattle.core_compare.proofs.Ways.{leads_free, spent_below}
 use Rattle.core_compare.proofs.Reaching.{on_left, on_right, both_still, Reaches, head_reaches, head_spends, head_deepens}

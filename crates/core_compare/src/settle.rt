@@ -1,7 +1,7 @@
 //! The pairs in place of two head forms.
 ghost use Rattle.std.specs.Prelude.{◌≡◌, ◌+◌, ◌++◌, ◌≤◌, ◌∷◌, [], ◌↔◌, IfOk, IsTrue};
 ghost use Rattle.core_reduce.specs.Values.{classes};
-ghost use Rattle.core_compare.specs.Pairs.{AreForms, MeetsSettle, part_pairs};
+ghost use Rattle.core_compare.specs.Pairs.{AreForms, MeetsArguments, MeetsSettle, part_pairs};
 
 use crate::pairs::SidePair;
 use cdle_model::NoMemory;
@@ -36,18 +36,22 @@ pub(crate) fn settle(
             if *i != *j {
                 return Ok(false);
             }
-            if !same_classes(xs, ys) {
-                return Ok(false);
-            }
-            put_parts(xs, ys, binders, pairs)?;
-            Ok(true)
+            put_arguments(xs, ys, binders, pairs)
         }
-        (Value::Former { former: f, parts: ps }, Value::Former { former: g, parts: qs }) => {
+        (
+            Value::Former {
+                former: f,
+                parts: ps,
+            },
+            Value::Former {
+                former: g,
+                parts: qs,
+            },
+        ) => {
             if !same_former(*f, *g) {
                 return Ok(false);
             }
-            let binders = one_more(binders)?;
-            put_parts(ps, qs, binders, pairs)?;
+            put_parts(ps, qs, one_more(binders)?, pairs)?;
             Ok(true)
         }
         (Value::Var { .. }, Value::Former { .. }) => Ok(false),
@@ -83,6 +87,22 @@ fn put_bodies(
         binders,
     })?;
     Ok(())
+}
+
+/// Puts the pairs of the arguments of one variable on the list; false where they are not as many, or not of the same classes.
+fn put_arguments(
+    xs: &Vec<Side>,
+    ys: &Vec<Side>,
+    binders: u32,
+    pairs: &mut Vec<SidePair>,
+) -> Result<bool, NoMemory>
+    ensures { IfOk result (λ b. MeetsArguments binders xs.now.items ys.now.items pairs.old.items pairs.new.items b) }
+{
+    if !same_classes(xs, ys) {
+        return Ok(false);
+    }
+    put_parts(xs, ys, binders, pairs)?;
+    Ok(true)
 }
 
 /// Whether the sides are as many, and of the same classes.

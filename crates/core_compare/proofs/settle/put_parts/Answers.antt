@@ -9,9 +9,10 @@ index-requires-in-parts c =
 
 pub parts-preserved : goal.parts-preserved
 parts-preserved c =
-    let t = c.parts-test.true in let b = c.parts.invariant.0 in
-    (omega arith,
-    rw c.in_ok-push.ensures.items
-    (parts_more c.args.binders c.args.pairs.now.items c.parts.pairs.items c.args.xs.now.items c.args.ys.now.items c.parts.k (c.parts.k - 1)
-    c.index.result.now c.index-in-parts.result.now c.in_ok-left.left c.in_ok-right.right c.parts.invariant.1 (omega arith) b
-    (same_length c.args.xs.now.items c.args.ys.now.items c.requires) c.index.ensures c.index-in-parts.ensures c.in_ok-left.ensures c.in_ok-right.ensures))
+    let t = c.parts-test.true in let b = c.parts.invariant.0 in (
+      omega arith,
+      rw c.in_ok-push.ensures.items
+          (parts_more c.args.binders c.args.pairs.now.items c.parts.pairs.items c.args.xs.now.items c.args.ys.now.items c.parts.k (c.parts.k - 1)
+          c.index.result.now c.index-in-parts.result.now c.in_ok-left.left c.in_ok-right.right c.parts.invariant.1 (omega arith) b
+          (same_length c.args.xs.now.items c.args.ys.now.items c.requires) c.index.ensures c.index-in-parts.ensures c.in_ok-left.ensures c.in_ok-right.ensures),
+    )

@@ -1,6 +1,6 @@
 use Rattle.std.proofs.Common.{subst, refl}
 use Rattle.core_compare.specs.Pairs.{IsForm}
-use Rattle.core_compare.proofs.Settling.{form_pure, settled_functions, settled_left, settled_right, settled_variables, variables_differ, settled_formers, formers_differ, variable_former, former_against, forms_below}
+use Rattle.core_compare.proofs.Settling.{form_pure, settled_functions, settled_left, settled_right, settled_by, variables_differ, settled_formers, formers_differ, variable_former, former_against, forms_below}
 use Rattle.core_compare.proofs.settle.settle.Goals as goal
 
 pub applied-requires-clause-below : goal.applied-requires-clause-below
@@ -35,16 +35,11 @@ returns-in_ok-put_bodies-in-Var-Fun c =
 pub returns-then-i-j : goal.returns-then-i-j
 returns-then-i-j c = rw (c.in-Var-Var.is-0, c.in-Var-Var.is-1) (variables_differ c.in-Var-Var.i c.in-Var-Var.j c.in-Var-Var.xs c.in-Var-Var.ys (λ e d. c.if-i-j.true e))
 
-pub returns-then-not-same_classes : goal.returns-then-not-same_classes
-returns-then-not-same_classes c =
+pub returns-else-i-j : goal.returns-else-i-j
+returns-else-i-j c =
     rw (c.in-Var-Var.is-0, c.in-Var-Var.is-1)
-    (variables_differ c.in-Var-Var.i c.in-Var-Var.j c.in-Var-Var.xs c.in-Var-Var.ys (λ e d. let t = c.if-not-same_classes.ensures.1 d in cc))
-
-pub returns-in_ok-put_parts-in-Var-Var : goal.returns-in_ok-put_parts-in-Var-Var
-returns-in_ok-put_parts-in-Var-Var c =
-    rw (c.in-Var-Var.is-0, c.in-Var-Var.is-1)
-    (settled_variables c.args.binders c.in-Var-Var.i c.in-Var-Var.j c.in-Var-Var.xs c.in-Var-Var.ys c.args.pairs.now.items c.put_parts.new.pairs.items c.requires.few c.if-i-j.false
-    (c.if-not-same_classes.ensures.0 refl) c.in_ok-put_parts-in-Var-Var.ensures)
+    (settled_by c.args.binders c.in-Var-Var.i c.in-Var-Var.j c.in-Var-Var.xs c.in-Var-Var.ys c.args.pairs.now.items c.put_arguments.new.pairs.items c.put_arguments.result
+    c.requires.few c.if-i-j.false c.put_arguments.ensures)
 
 pub returns-then-not-same_former : goal.returns-then-not-same_former
 returns-then-not-same_former c =
@@ -53,10 +48,10 @@ returns-then-not-same_former c =
 
 pub returns-in_ok-put_parts-in-Former-Former : goal.returns-in_ok-put_parts-in-Former-Former
 returns-in_ok-put_parts-in-Former-Former c =
-    let m = c.in_ok-binders-in-Former-Former.ensures in
+    let m = c.in_ok-one_more-in-Former-Former.ensures in
     rw (c.in-Former-Former.is-0, c.in-Former-Former.is-1)
-    (settled_formers c.args.binders c.in_ok-binders-in-Former-Former.binders c.in-Former-Former.f c.in-Former-Former.g c.in-Former-Former.ps c.in-Former-Former.qs
-    c.args.pairs.now.items c.put_parts-in-Former-Former.new.pairs.items m.0 m.1 (c.if-not-same_former.ensures.0 refl) c.in_ok-put_parts-in-Former-Former.ensures)
+    (settled_formers c.args.binders c.in_ok-one_more-in-Former-Former.field-0 c.in-Former-Former.f c.in-Former-Former.g c.in-Former-Former.ps c.in-Former-Former.qs
+    c.args.pairs.now.items c.put_parts.new.pairs.items m.0 m.1 (c.if-not-same_former.ensures.0 refl) c.in_ok-put_parts-in-Former-Former.ensures)
 
 pub returns-in-Var-Former : goal.returns-in-Var-Former
 returns-in-Var-Former c =
