@@ -18,6 +18,8 @@ use std::alloc::Global;
 use std::rc::Rc;
 
 /// The forms of an erased type or kind that is no variable and no name. `At` and `On` are applications that are stuck.
+///
+/// The parts stand in the order in which Core text writes them: none of `Star`, the body of `Tlam` and of `Xtlam`, and two of every other form.
 #[derive(Clone, Copy, Debug, PartialEq, Eq)]
 pub enum Former {
     Pi,
