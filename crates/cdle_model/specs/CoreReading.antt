@@ -12,7 +12,7 @@ use Rattle.cdle_model.specs.declared.grammar.CoreWanted.{CoreWanted}
 use Rattle.cdle_model.specs.declared.grammar.CoreWanted.TheVariants as wanted
 use Rattle.cdle_model.specs.CoreFaults.{Fault, BadText, Unbound, WrongClass, TooDeep, wanted_part, unexpected}
 use Rattle.cdle_model.specs.CoreTokens.{Opens, Closes, Word, Token}
-use Rattle.cdle_model.specs.CoreGrammar.{form_of, has_forms, names_of, pieces, made, look_up, item_words, item_pieces, made_item}
+use Rattle.cdle_model.specs.CoreGrammar.{form_of, names_of, pieces, made, look_up, item_words, item_pieces, made_item}
 use Rattle.cdle_model.specs.CoreNames.{Name, Names, under, behind, stands, same_sort, is_star, with_item}
 
 infixl 10 ◌>>=◌
@@ -94,7 +94,7 @@ form_with read end left scope c ts = do
 -- behind a parenthesis at a place, with the number of those that may still open, itself counted
 unfoldable pub inside : ℕ → ℕ → ℕ → Reader
 inside end zero at scope c ts = Err (TooDeep at)
-inside end (suc left) at scope c ts = if has_forms c then form_with (part_with (inside end left) end) end left scope c ts else Err (BadText at (wanted_part c))
+inside end (suc left) at scope c ts = form_with (part_with (inside end left) end) end left scope c ts
 
 -- a part of a class, inside which so many parentheses may open
 abbrev pub part_at : ℕ → ℕ → Reader
