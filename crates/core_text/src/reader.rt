@@ -8,15 +8,16 @@ ghost use Rattle.core_text.specs.View.{rest, Advances, Gives, IsAt, IsPlaced};
 ghost use Rattle.core_text.specs.Parts.{part_tree, class_of};
 ghost use Rattle.core_text.specs.Scope.{names, known_names, scope_of};
 
-use crate::binders::{Binders, Meaning, find};
+use crate::binders::{Binders, find};
+use crate::build::build;
 use crate::error::CoreTextFault;
-use crate::forms::{opens, pieces_of, wanted_of};
-use crate::part::{Part, build};
+use crate::forms::{is_same, pieces_of, sort_of_names, wanted_of};
+use crate::part::Part;
 use crate::scope::CoreScope;
 use crate::token::{Lexeme, next};
 use crate::words::{bad, close_of, form_word, name_of, open_of, sort_of, too_deep};
-use cdle_model::{Class, CoreWanted, Piece, Sort, Text};
-use core_tree::{CoreItem, Kind, Term, Ty};
+use cdle_model::{Class, Piece, Sort, Text};
+use core_tree::CoreItem;
 use std::alloc::Global;
 
 /// How many parentheses may open inside an item's own.
@@ -50,40 +51,24 @@ impl<'a> Reader<'a> {
         ensures placed { IfErr result (IsAt at) }
     {
         let star = word == b"*".as_slice();
-        match class {
-            Class::Kind => {
+        match sort_of_names(class) {
+            None => {
                 if !star {
-                    return Err(bad(at, CoreWanted::Kind));
+                    return Err(bad(at, wanted_of(class)));
                 }
-                Ok(Part::Kind(Kind::star(self.alloc)?))
+                Ok(Part::star(self.alloc, class)?)
             }
-            Class::Ty => {
+            Some(sort) => {
                 if star {
-                    return Err(bad(at, CoreWanted::Ty));
+                    return Err(bad(at, wanted_of(class)));
                 }
                 match find(binders, self.own, self.known, word) {
                     None => Err(CoreTextFault::Unbound { at: at as u32 }),
-                    Some((Sort::OfTerm, _)) => Err(CoreTextFault::WrongClass { at: at as u32 }),
-                    Some((Sort::OfType, Meaning::Var(index))) => {
-                        Ok(Part::Ty(Ty::var(self.alloc, index)?))
-                    }
-                    Some((Sort::OfType, Meaning::Name(number))) => {
-                        Ok(Part::Ty(Ty::name(self.alloc, number)?))
-                    }
-                }
-            }
-            Class::Term => {
-                if star {
-                    return Err(bad(at, CoreWanted::Term));
-                }
-                match find(binders, self.own, self.known, word) {
-                    None => Err(CoreTextFault::Unbound { at: at as u32 }),
-                    Some((Sort::OfType, _)) => Err(CoreTextFault::WrongClass { at: at as u32 }),
-                    Some((Sort::OfTerm, Meaning::Var(index))) => {
-                        Ok(Part::Term(Term::var(self.alloc, index)?))
-                    }
-                    Some((Sort::OfTerm, Meaning::Name(number))) => {
-                        Ok(Part::Term(Term::name(self.alloc, number)?))
+                    Some((found, meaning)) => {
+                        if !is_same(sort, found) {
+                            return Err(CoreTextFault::WrongClass { at: at as u32 });
+                        }
+                        Ok(Part::named(self.alloc, class, meaning)?)
                     }
                 }
             }
@@ -125,9 +110,6 @@ impl<'a> Reader<'a> {
             Lexeme::Opens => {
                 if left == 0 {
                     return Err(too_deep(token.at));
-                }
-                if !opens(class) {
-                    return Err(bad(token.at, wanted_of(class)));
                 }
                 self.form(left - 1, binders, class, token.end)
             }
