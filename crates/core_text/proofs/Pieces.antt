@@ -1,17 +1,21 @@
 -- Parentheses that may still open, and the classes of parts.
-use Rattle.std.proofs.Common.{◌≡◌, ℕ, zero, suc, ◌-◌, ◌+◌, ◌<◌, ◌≤◌, max, true, false, List, [], ◌∷◌, ◌++◌, length, All, Err, refl, ap, arith}
+use Rattle.std.proofs.Common.{◌≡◌, ℕ, zero, suc, ◌-◌, ◌+◌, ◌<◌, ◌≤◌, max, true, false, List, [], ◌∷◌, ◌++◌, length, All, Option, Ok, Err, refl, sym, ap, arith, append_assoc}
+use Rattle.std.proofs.lemmas.List.{map_push}
 use Rattle.std.proofs.lemmas.List.Elements.{All-append, All-map}
 use Rattle.cdle_model.specs.Trees.{Tree}
 use Rattle.cdle_model.specs.Depth.{depth}
 use Rattle.cdle_model.specs.declared.grammar.Form.{Form}
-use Rattle.cdle_model.specs.declared.grammar.Form.TheVariants.{Kpi, Kpit, Pi, All, Allt, Tlam, Xtlam, At, On, Iota, Eq, Lam, Elam, Xlam, App, Eapp, Tapp, Pair, Fst, Snd, Beta, Rho, Phi, Delta, Function, Ap, GuidePi, GuideAll, GuideAllt, GuideTlam, GuideXtlam, GuideAt, GuideOn, GuideIota, GuideEq, GuideKpi, GuideKpit}
+use Rattle.cdle_model.specs.declared.grammar.Form.TheVariants as form
 use Rattle.cdle_model.specs.declared.grammar.Class.{Class}
+use Rattle.cdle_model.specs.declared.grammar.Piece.{Piece}
+use Rattle.cdle_model.specs.declared.grammar.Piece.TheVariants.{Part as PartOf, Under}
 use Rattle.cdle_model.specs.CoreTokens.{Token}
 use Rattle.cdle_model.specs.CoreFaults.{TooDeep}
 use Rattle.cdle_model.specs.CoreGrammar.{made}
-use Rattle.cdle_model.specs.CoreNames.{Names}
-use Rattle.cdle_model.specs.CoreReading.{inside, part_at, form_with}
-use Rattle.core_text.specs.Parts.{AreShallow, classes, part_tree, trees}
+use Rattle.cdle_model.specs.CoreNames.{Name, Names, under}
+use Rattle.cdle_model.specs.CoreReading.{◌>>=◌, Read, Reader, pieces_with, inside, part_at, form_with}
+use Rattle.core_text.specs.Parts.{AreShallow, class_of, classes, part_tree, trees}
+use Rattle.core_text.specs.View.{with_front}
 use Rattle.core_text.specs.declared.part.Part.{Part}
 
 pub length_classes : (ps : List Part) → length (classes ps) ≡ length ps
@@ -30,6 +34,24 @@ inside_form end (suc left) at scope c ts lt = let e : suc left - 1 ≡ left = om
 
 pub ruleset inside_rules = (inside_deep, inside_form)
 
+-- ---- one part more
+
+module _ (read : Reader) (end left : ℕ) (scope : Names) (binder : Option Name) where
+  append_read : (r : Read (List Tree)) (front : List Tree) (t : Tree) → with_front front (r >>= λ us. Ok (t ∷ us.0, us.1)) ≡ with_front (front ++ t ∷ []) r
+  append_read (Ok us) front t = rw append_assoc refl
+  append_read (Err e) front t = refl
+
+  pub part_more : (c : Class) (ps : List Piece) (parts more : List Part) (p : Part) (ts next : List Token) → read scope c ts ≡ Ok (part_tree p, next) → more ≡ parts ++ p ∷ []
+      → with_front (trees parts) (pieces_with read end left scope binder (PartOf c ∷ ps) ts) ≡ with_front (trees more) (pieces_with read end left scope binder ps next)
+  part_more c ps parts more p ts next e q = rw (e, q, map_push part_tree parts p) (append_read (pieces_with read end left scope binder ps next) (trees parts) (part_tree p))
+
+  pub under_more : (c : Class) (ps : List Piece) (parts more : List Part) (p : Part) (ts next : List Token) → read (under binder scope) c ts ≡ Ok (part_tree p, next) → more ≡ parts ++ p ∷ []
+      → with_front (trees parts) (pieces_with read end left scope binder (Under c ∷ ps) ts) ≡ with_front (trees more) (pieces_with read end left scope binder ps next)
+  under_more c ps parts more p ts next e q = rw (e, q, map_push part_tree parts p) (append_read (pieces_with read end left scope binder ps next) (trees parts) (part_tree p))
+
+pub classes_more : (c : Class) (cs : List Class) (parts more : List Part) (p : Part) → class_of p ≡ c → more ≡ parts ++ p ∷ [] → classes parts ++ c ∷ cs ≡ classes more ++ cs
+classes_more c cs parts more p e q = rw (q, map_push class_of parts p, e) (sym (append_assoc (classes parts) (c ∷ []) cs))
+
 -- ---- depth
 
 abbrev IsShallow : ℕ → List Tree → Type 0
@@ -42,43 +64,43 @@ both_shallow : (a b : Tree) (most : ℕ) → IsShallow most (a ∷ b ∷ []) →
 both_shallow a b most h = omega (arith, h 0 a (omega arith), h 1 b (omega arith))
 
 made_shallow : (f : Form) (us : List Tree) (most : ℕ) → IsShallow most us → depth (made f us) ≤ most + 1
-made_shallow Kpi (a ∷ b ∷ []) most h = both_shallow a b most h
-made_shallow Kpit (a ∷ b ∷ []) most h = both_shallow a b most h
-made_shallow Pi (a ∷ b ∷ []) most h = both_shallow a b most h
-made_shallow All (a ∷ b ∷ []) most h = both_shallow a b most h
-made_shallow Allt (a ∷ b ∷ []) most h = both_shallow a b most h
-made_shallow Tlam (a ∷ b ∷ []) most h = both_shallow a b most h
-made_shallow Xtlam (a ∷ b ∷ []) most h = both_shallow a b most h
-made_shallow At (a ∷ b ∷ []) most h = both_shallow a b most h
-made_shallow On (a ∷ b ∷ []) most h = both_shallow a b most h
-made_shallow Iota (a ∷ b ∷ []) most h = both_shallow a b most h
-made_shallow Eq (a ∷ b ∷ []) most h = both_shallow a b most h
-made_shallow Lam (a ∷ b ∷ []) most h = both_shallow a b most h
-made_shallow Elam (a ∷ b ∷ []) most h = both_shallow a b most h
-made_shallow Xlam (a ∷ b ∷ []) most h = both_shallow a b most h
-made_shallow App (a ∷ b ∷ []) most h = both_shallow a b most h
-made_shallow Eapp (a ∷ b ∷ []) most h = both_shallow a b most h
-made_shallow Tapp (a ∷ b ∷ []) most h = both_shallow a b most h
-made_shallow Pair (a ∷ b ∷ c ∷ []) most h = omega (arith, h 0 a (omega arith), h 1 b (omega arith), h 2 c (omega arith))
-made_shallow Fst (a ∷ []) most h = one_shallow a most h
-made_shallow Snd (a ∷ []) most h = one_shallow a most h
-made_shallow Beta (a ∷ b ∷ []) most h = both_shallow a b most h
-made_shallow Rho (a ∷ b ∷ c ∷ d ∷ []) most h = omega (arith, h 0 a (omega arith), h 1 b (omega arith), h 2 c (omega arith), h 3 d (omega arith))
-made_shallow Phi (a ∷ b ∷ c ∷ []) most h = omega (arith, h 0 a (omega arith), h 1 b (omega arith), h 2 c (omega arith))
-made_shallow Delta (a ∷ b ∷ []) most h = both_shallow a b most h
-made_shallow Function (a ∷ []) most h = one_shallow a most h
-made_shallow Ap (a ∷ b ∷ []) most h = both_shallow a b most h
-made_shallow GuidePi (a ∷ b ∷ []) most h = both_shallow a b most h
-made_shallow GuideAll (a ∷ b ∷ []) most h = both_shallow a b most h
-made_shallow GuideAllt (a ∷ b ∷ []) most h = both_shallow a b most h
-made_shallow GuideTlam (a ∷ []) most h = one_shallow a most h
-made_shallow GuideXtlam (a ∷ []) most h = one_shallow a most h
-made_shallow GuideAt (a ∷ b ∷ []) most h = both_shallow a b most h
-made_shallow GuideOn (a ∷ b ∷ []) most h = both_shallow a b most h
-made_shallow GuideIota (a ∷ b ∷ []) most h = both_shallow a b most h
-made_shallow GuideEq (a ∷ b ∷ []) most h = both_shallow a b most h
-made_shallow GuideKpi (a ∷ b ∷ []) most h = both_shallow a b most h
-made_shallow GuideKpit (a ∷ b ∷ []) most h = both_shallow a b most h
+made_shallow form.Kpi (a ∷ b ∷ []) most h = both_shallow a b most h
+made_shallow form.Kpit (a ∷ b ∷ []) most h = both_shallow a b most h
+made_shallow form.Pi (a ∷ b ∷ []) most h = both_shallow a b most h
+made_shallow form.All (a ∷ b ∷ []) most h = both_shallow a b most h
+made_shallow form.Allt (a ∷ b ∷ []) most h = both_shallow a b most h
+made_shallow form.Tlam (a ∷ b ∷ []) most h = both_shallow a b most h
+made_shallow form.Xtlam (a ∷ b ∷ []) most h = both_shallow a b most h
+made_shallow form.At (a ∷ b ∷ []) most h = both_shallow a b most h
+made_shallow form.On (a ∷ b ∷ []) most h = both_shallow a b most h
+made_shallow form.Iota (a ∷ b ∷ []) most h = both_shallow a b most h
+made_shallow form.Eq (a ∷ b ∷ []) most h = both_shallow a b most h
+made_shallow form.Lam (a ∷ b ∷ []) most h = both_shallow a b most h
+made_shallow form.Elam (a ∷ b ∷ []) most h = both_shallow a b most h
+made_shallow form.Xlam (a ∷ b ∷ []) most h = both_shallow a b most h
+made_shallow form.App (a ∷ b ∷ []) most h = both_shallow a b most h
+made_shallow form.Eapp (a ∷ b ∷ []) most h = both_shallow a b most h
+made_shallow form.Tapp (a ∷ b ∷ []) most h = both_shallow a b most h
+made_shallow form.Pair (a ∷ b ∷ c ∷ []) most h = omega (arith, h 0 a (omega arith), h 1 b (omega arith), h 2 c (omega arith))
+made_shallow form.Fst (a ∷ []) most h = one_shallow a most h
+made_shallow form.Snd (a ∷ []) most h = one_shallow a most h
+made_shallow form.Beta (a ∷ b ∷ []) most h = both_shallow a b most h
+made_shallow form.Rho (a ∷ b ∷ c ∷ d ∷ []) most h = omega (arith, h 0 a (omega arith), h 1 b (omega arith), h 2 c (omega arith), h 3 d (omega arith))
+made_shallow form.Phi (a ∷ b ∷ c ∷ []) most h = omega (arith, h 0 a (omega arith), h 1 b (omega arith), h 2 c (omega arith))
+made_shallow form.Delta (a ∷ b ∷ []) most h = both_shallow a b most h
+made_shallow form.Function (a ∷ []) most h = one_shallow a most h
+made_shallow form.Ap (a ∷ b ∷ []) most h = both_shallow a b most h
+made_shallow form.GuidePi (a ∷ b ∷ []) most h = both_shallow a b most h
+made_shallow form.GuideAll (a ∷ b ∷ []) most h = both_shallow a b most h
+made_shallow form.GuideAllt (a ∷ b ∷ []) most h = both_shallow a b most h
+made_shallow form.GuideTlam (a ∷ []) most h = one_shallow a most h
+made_shallow form.GuideXtlam (a ∷ []) most h = one_shallow a most h
+made_shallow form.GuideAt (a ∷ b ∷ []) most h = both_shallow a b most h
+made_shallow form.GuideOn (a ∷ b ∷ []) most h = both_shallow a b most h
+made_shallow form.GuideIota (a ∷ b ∷ []) most h = both_shallow a b most h
+made_shallow form.GuideEq (a ∷ b ∷ []) most h = both_shallow a b most h
+made_shallow form.GuideKpi (a ∷ b ∷ []) most h = both_shallow a b most h
+made_shallow form.GuideKpit (a ∷ b ∷ []) most h = both_shallow a b most h
 made_shallow f us most h = omega arith
 
 -- the tree of a form is one level over its parts
