@@ -8,6 +8,7 @@
 
 mod binders;
 mod build;
+mod entry;
 mod error;
 mod file;
 mod forms;
