@@ -14,7 +14,8 @@ use Rattle.core_tree.specs.declared.items.CoreItem.{CoreItem}
 use Rattle.core_text.specs.declared.entry.Entry.{Entry}
 use Rattle.cdle_model.specs.declared.grammar.Sort.{Sort}
 use Rattle.cdle_model.specs.Trees.{Tree, name}
-use Rattle.cdle_model.specs.CoreNames.{Name, item_of, with_items}
+use Rattle.cdle_model.specs.Forms.{Written}
+use Rattle.cdle_model.specs.CoreNames.{Name, item_of, with_item, with_items}
 
 abbrev numbered_from : ℕ → Tree → Tree
 numbered_from k (name n) = name (k + n)
@@ -134,6 +135,11 @@ as_many [] [] e = refl
 as_many [] (i ∷ is) e = absurd cc
 as_many (n ∷ ns) [] e = absurd cc
 as_many (n ∷ ns) (i ∷ is) e = ap suc (as_many ns is (same_tail _ _ _ _ e))
+
+-- so many more
+pub length_with_items : (is : List Written) (known : List Name) → length (with_items is known) ≡ length known + length is
+length_with_items [] known = omega arith
+length_with_items (i ∷ is) known = let others = length_with_items is (with_item i known) in omega (arith, others)
 
 pub nothing_left : {X : Type 0} (l : List X) → length l ≡ 0 → l ≡ []
 nothing_left [] h = refl

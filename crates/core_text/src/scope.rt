@@ -128,6 +128,7 @@ impl CoreScope {
     pub fn add(&mut self, alloc: Global, file: &CoreFile) -> Result<(), NoMemory>
         requires { length (known_names self.old) + length file.now.items < 2 ^ 32 }
         ensures added { OnOk result (known_names self.new ≡ with_items file.now.items (known_names self.old)) }
+        ensures counted { OnOk result (length (known_names self.new) ≡ length (known_names self.old) + length file.now.items) }
         ensures kept { OnErr result (known_names self.new ≡ known_names self.old) }
     {
         let names = new_names(alloc, file.items.as_slice())?;

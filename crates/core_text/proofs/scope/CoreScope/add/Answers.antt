@@ -2,7 +2,7 @@ use Rattle.std.proofs.Common.{length, sym, ap, subst, ◌∙◌, arith}
 use Rattle.std.specs.Vec.Iter.{into_iter_items}
 use Rattle.cdle_model.specs.CoreNames.{with_items}
 use Rattle.core_text.specs.Scope.{known_names, HasRoom}
-use Rattle.core_text.proofs.Names.{as_many, nothing_left, put_items, put_names}
+use Rattle.core_text.proofs.Names.{as_many, length_with_items, nothing_left, put_items, put_names}
 use Rattle.core_text.proofs.scope.CoreScope.add.Goals as goal
 
 pub loop-name-init : goal.loop-name-init
@@ -39,3 +39,6 @@ returns-clause-added c =
     let empty = nothing_left _ (sym at.invariant.len ∙ c.in-None.ensures.steps.0) in
     (rw empty at at.invariant.rest) ∙ ap (λ ns. put_names ns (known_names c.args.self.now)) c.into_iter-name-iterator.ensures.into_iter_gives.0
     ∙ put_items _ _ (known_names c.args.self.now) c.in_ok-names.ensures ∙ ap (λ is. with_items is (known_names c.args.self.now)) c.as_slice.ensures
+
+pub returns-clause-counted : goal.returns-clause-counted
+returns-clause-counted c = ap length (returns-clause-added c) ∙ length_with_items c.args.file.now.items (known_names c.args.self.now)
