@@ -11,7 +11,7 @@ use Rattle.cdle_model.specs.declared.grammar.CoreWanted.{CoreWanted}
 use Rattle.cdle_model.specs.declared.grammar.CoreWanted.TheVariants as wanted
 use Rattle.cdle_model.specs.CoreFaults.{Fault, BadText, Unbound, WrongClass, TooDeep, wanted_part, passes_nesting}
 use Rattle.cdle_model.specs.CoreTokens.{Lexeme, Opens, Closes, Word, Token, tokens}
-use Rattle.cdle_model.specs.CoreGrammar.{form_of, has_forms, names_of, pieces, look_up, item_words, item_pieces}
+use Rattle.cdle_model.specs.CoreGrammar.{form_of, names_of, pieces, look_up, item_words, item_pieces}
 use Rattle.cdle_model.specs.CoreNames.{Name, Names, under, behind, stands, same_sort, is_star}
 use Rattle.cdle_model.specs.CoreText.{IsText}
 
@@ -97,7 +97,7 @@ act (MoreItems known) Opens = fine (ItemWord known ∷ [])
 act (ItemWord known) (Word w) = an_item known (look_up w item_words)
 act (ItemName known s) (Word w) = if is_star w then None else fine (for_pieces 1023 (behind known) None (item_pieces s) ++ MoreItems (record { text = w; sort = s } ∷ known) ∷ [])
 act (PartOf left scope c) (Word w) = a_word scope (names_of c) w
-act (PartOf left scope c) Opens = if has_forms c then fine (opening left scope c) else None
+act (PartOf left scope c) Opens = fine (opening left scope c)
 act (FormOf left scope c) (Word w) = a_form left scope (form_of c w)
 act (Binding left scope s ps) (Word w) = if is_star w then None else fine (for_pieces left scope (Some (record { text = w; sort = s })) ps)
 act (Closing left) Closes = fine []

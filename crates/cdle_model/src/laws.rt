@@ -1,5 +1,6 @@
 //! The laws of the definitions. Each is the contract of a function with an empty body.
-ghost use Rattle.std.specs.Prelude.{◌≡◌, ℕ, List, [], false, length};
+ghost use Rattle.std.specs.Prelude.{◌≡◌, ◌⊎◌, ℕ, List, [], false, length};
+ghost use Rattle.std.specs.Str.{IsUtf8};
 ghost use Rattle.cdle_model.specs.Classes.{AreItems, AreOver};
 ghost use Rattle.cdle_model.specs.CoreFaults.{BadText, Fault};
 ghost use Rattle.cdle_model.specs.CoreNames.{Name, Names, with_items};
@@ -20,6 +21,12 @@ pub fn one_text_one_tree()
     ensures file { (bytes : List ℕ) (known : List Name) (is js : List Written) → Says bytes known is → Says bytes known js → is ≡ js }
 {}
 
+/// A text in UTF-8 says a list of items, or it has a first fault. That it has not both, and only one of either, is said by the other laws.
+pub fn text_is_said_or_faulty()
+    ensures either { (bytes : List ℕ) (known : List Name) → IsUtf8 bytes → ((is : List Written) × Says bytes known is) ⊎ ((f : Fault) × IsFirstFault bytes known f) }
+    ensures one { (bytes : List ℕ) (known : List Name) (f g : Fault) → IsFirstFault bytes known f → IsFirstFault bytes known g → f ≡ g }
+{}
+
 /// Bytes that say items have no first fault.
 pub fn said_is_faultless()
     ensures { (bytes : List ℕ) (known : List Name) (is : List Written) (f : Fault) → Says bytes known is → IsFirstFault bytes known f → ⊥ }
@@ -31,11 +38,9 @@ pub fn bad_text_is_first()
         → IsFirstFault bytes known (BadText at what) → IsFirstBadPlace (length bytes) known (tokens false 0 bytes) at what }
 {}
 
-/// What a text says behind items is a list of items, each closed and over the earlier ones, with each variable and name used in its class,
-/// and of the forms that the check knows.
+/// What a text says behind items is a list of items, each closed and over the earlier ones, with each variable and name used in its class.
 pub fn read_items_are_items()
-    ensures over { (bytes : List ℕ) (es ws : List Written) → Says bytes (with_items es []) ws → AreOver es ws }
-    ensures forms { (bytes : List ℕ) (es ws : List Written) → Says bytes (with_items es []) ws → AreFirstItems ws }
+    ensures { (bytes : List ℕ) (es ws : List Written) → Says bytes (with_items es []) ws → AreOver es ws }
 {}
 
 /// Where the check accepts a list of items of these forms, the list has a derivation.

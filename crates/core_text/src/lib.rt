@@ -1,4 +1,4 @@
-//! The reader of Core text, version 1, of the forms that the checker knows so far.
+//! The reader of Core text, version 1.
 //!
 //! `read_core` gives exactly the one list of items that a file's bytes say, or its first fault, at its place: bytes that are not UTF-8, else
 //! the first token after which no text of the grammar continues, a name that stands for nothing or for something of the other class, or a
@@ -7,6 +7,8 @@
 #![tactic(auto)]
 
 mod binders;
+mod build;
+mod entry;
 mod error;
 mod file;
 mod forms;
