@@ -31,6 +31,8 @@ wanted_word wanted.Close = codes ")"
 abbrev pub count_word : Count → List ℕ
 count_word count.Bytes = codes "bytes"
 count_word count.Nesting = codes "nesting"
+count_word count.Depth = codes "depth"
+count_word count.Items = codes "items"
 
 -- the numbers of a path from the item inwards
 abbrev pub path_text : List ℕ → List ℕ
@@ -56,6 +58,10 @@ refused_line item path reason = line (codes "refused " ++ (item ++ (codes " at "
 -- an earlier item has that name
 abbrev pub duplicate_line : List ℕ → Line
 duplicate_line item = line (codes "refused " ++ (item ++ codes ": duplicate"))
+
+-- the check of the item was undecided at that path, with that budget
+abbrev pub undecided_line : List ℕ → List ℕ → ℕ → Line
+undecided_line item path budget = line (codes "undecided " ++ (item ++ (codes " at " ++ (path_text path ++ (codes ": budget " ++ decimal budget)))))
 
 abbrev pub cannot_read_line : List ℕ → Line
 cannot_read_line file = line (codes "cannot read " ++ file)

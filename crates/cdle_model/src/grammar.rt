@@ -89,4 +89,6 @@ pub enum CoreWanted {
 pub enum Count {
     Bytes,
     Nesting,
+    Depth,
+    Items,
 }

@@ -1,0 +1,8 @@
+pub mod Texts
+pub mod Items
+pub mod Numbers
+pub mod Verdicts
+pub mod Ends
+pub mod Calls
+pub mod Works
+pub mod Theorem

@@ -1,0 +1,122 @@
+-- The outcome of the check: from the checker's fault to it, and that where the plain check with n units is not spent, there is one.
+use Rattle.std.proofs.Common.{◌≡◌, ◌∙◌, ℕ, true, false, List, [], Option, Some, None, length, refl, sym, ap, ap₂, subst, slice_get, arith}
+use Rattle.std.specs.Prelude.{if◌then◌else◌, nat_le}
+use Rattle.std.proofs.lemmas.Bool.Decides.{nat_tests}
+use Rattle.cdle_folder.specs.Files.{Bytes}
+use Rattle.cdle_model.specs.Check.{Reason, not_a_function, not_an_intersection, not_an_equation, wrong_kind, mismatch, erased_use, parts_differ, not_booleans, sides_differ, ListVerdict, accepts, refuses, spends, ends, duplicate, check_items}
+use Rattle.cdle_model.specs.Depth.{depth}
+use Rattle.cdle_model.specs.Forms.{Written, name_of}
+use Rattle.cdle_model.specs.HeadForms.{deep}
+use Rattle.cdle_model.specs.Trees.{Tree}
+use Rattle.cdle_model.specs.declared.grammar.Count.TheVariants.{Depth}
+use Rattle.cdle_model.specs.Classes.{AreItems}
+use Rattle.cdle_model.proofs.CheckLargerBudget.{list-stays}
+use Rattle.cdle_model.proofs.ItemsChecked.{duplicate-lost, refused-lost}
+use Rattle.cdle_model.proofs.Undecided.{undecided-spent}
+use Rattle.core_check.specs.Answer.{IsFaultOf}
+use Rattle.core_check.specs.Reasons.{IsWhy}
+use Rattle.core_reduce.specs.Sides.{IsKept}
+use Rattle.core_tree.specs.declared.faults.CoreFault.TheVariants as fault
+use Rattle.core_tree.specs.declared.faults.Kept.{Kept}
+use Rattle.core_tree.specs.declared.faults.Kept.TheVariants.{Whole, Deep}
+use Rattle.core_tree.specs.declared.faults.Why.{Why}
+use Rattle.core_tree.specs.declared.faults.Why.TheVariants as w
+use Rattle.build_drive.specs.Checks.{IsDecided, IsItemName, IsVerdict, Tells}
+use Rattle.build_drive.specs.declared.outcome.Outcome.{Outcome}
+use Rattle.build_drive.specs.declared.outcome.Outcome.TheVariants as outcome
+use Rattle.build_drive.specs.declared.outcome.Reason.TheVariants.{Core, Duplicate}
+use Rattle.build_drive.specs.declared.outcome.Spot.TheVariants.{CoreSpot}
+
+-- ---- from a fault to its outcome
+
+pub refused-verdict : (n : ℕ) (ws : List Written) (i : ℕ) (path : List ℕ) (why : Why) (name : Bytes) → AreItems ws → IsFaultOf n ws (fault.Refused i path why) → IsItemName ws i name
+    → IsVerdict n ws (outcome.Refused (CoreSpot name path) (Core why))
+refused-verdict n ws i path why name over h item =
+    (h.0, subst (λ v. Tells ws v (outcome.Refused (CoreSpot name path) (Core why))) (sym h.2) ((item, refl), h.3, refused-lost ws over h.0 i path h.1 h.2))
+
+pub duplicate-verdict : (n : ℕ) (ws : List Written) (i earlier : ℕ) (name : Bytes) → AreItems ws → IsFaultOf n ws (fault.Duplicate i earlier) → IsItemName ws i name
+    → IsVerdict n ws (outcome.Refused (CoreSpot name []) (Duplicate earlier))
+duplicate-verdict n ws i earlier name over h item =
+    (h.0, subst (λ v. Tells ws v (outcome.Refused (CoreSpot name []) (Duplicate earlier))) (sym h.1) ((item, refl), refl, duplicate-lost ws over h.0 i earlier h.1))
+
+-- ---- the outcome of a verdict, as a function
+
+abbrev kept : Tree → Kept Tree
+kept t = if nat_le (depth t) 4096 then Whole t else Deep
+
+kept-is : (t : Tree) (k : Kept Tree) → IsKept t k → k ≡ kept t
+kept-is t (Whole u) h = let test : nat_le (depth t) 4096 ≡ true = grind (arith, nat_tests, h.1) in rw test (ap Whole h.0)
+kept-is t Deep h = let test : nat_le (depth t) 4096 ≡ false = grind (arith, nat_tests, h) in rw test refl
+
+abbrev why_of : Reason → Why
+why_of (not_a_function a) = w.NotAFunction (kept a)
+why_of (not_an_intersection a) = w.NotAnIntersection (kept a)
+why_of (not_an_equation a) = w.NotAnEquation (kept a)
+why_of (wrong_kind a None) = w.WrongKind (kept a) None
+why_of (wrong_kind a (Some b)) = w.WrongKind (kept a) (Some (kept b))
+why_of (mismatch a b) = w.Mismatch (kept a) (kept b)
+why_of erased_use = w.ErasedUse
+why_of (parts_differ a b) = w.PartsDiffer (kept a) (kept b)
+why_of (not_booleans a b) = w.NotBooleans (kept a) (kept b)
+why_of (sides_differ a b) = w.SidesDiffer (kept a) (kept b)
+
+why-is : (r : Reason) (why : Why) → IsWhy r why → why ≡ why_of r
+why-is (not_a_function a) (w.NotAFunction k) h = ap w.NotAFunction (kept-is a k h)
+why-is (not_an_intersection a) (w.NotAnIntersection k) h = ap w.NotAnIntersection (kept-is a k h)
+why-is (not_an_equation a) (w.NotAnEquation k) h = ap w.NotAnEquation (kept-is a k h)
+why-is (wrong_kind a None) (w.WrongKind k None) h = ap (λ x. w.WrongKind x None) (kept-is a k h)
+why-is (wrong_kind a (Some b)) (w.WrongKind k (Some l)) h = ap₂ (λ x y. w.WrongKind x (Some y)) (kept-is a k h.0) (kept-is b l h.1)
+why-is (mismatch a b) (w.Mismatch k l) h = ap₂ w.Mismatch (kept-is a k h.0) (kept-is b l h.1)
+why-is erased_use w.ErasedUse h = refl
+why-is (parts_differ a b) (w.PartsDiffer k l) h = ap₂ w.PartsDiffer (kept-is a k h.0) (kept-is b l h.1)
+why-is (not_booleans a b) (w.NotBooleans k l) h = ap₂ w.NotBooleans (kept-is a k h.0) (kept-is b l h.1)
+why-is (sides_differ a b) (w.SidesDiffer k l) h = ap₂ w.SidesDiffer (kept-is a k h.0) (kept-is b l h.1)
+why-is r why h = absurd h
+
+abbrev name_in : Option Written → Bytes
+name_in None = []
+name_in (Some w) = name_of w
+
+name-is : (ws : List Written) (i : ℕ) (name : Bytes) → IsItemName ws i name → name ≡ name_in (slice_get ws i)
+name-is ws i name h = h.2 ∙ ap name_in (sym h.1)
+
+abbrev outcome_of : List Written → ListVerdict → Outcome
+outcome_of ws accepts = outcome.Ok 0 (length ws)
+outcome_of ws (refuses i path reason) = outcome.Refused (CoreSpot (name_in (slice_get ws i)) path) (Core (why_of reason))
+outcome_of ws (duplicate i earlier) = outcome.Refused (CoreSpot (name_in (slice_get ws i)) []) (Duplicate earlier)
+outcome_of ws (ends i h) = outcome.Limit (name_in (slice_get ws i)) Depth
+outcome_of ws (spends i path) = outcome.NoMemory
+
+tells-is : (ws : List Written) (v : ListVerdict) (o : Outcome) → Tells ws v o → o ≡ outcome_of ws v
+tells-is ws accepts (outcome.Ok modules items) h = ap₂ outcome.Ok h.0 h.1
+tells-is ws (refuses i path reason) (outcome.Refused (CoreSpot name p) (Core why)) h = rw (name-is ws i name h.0.0, h.0.1, why-is reason why h.1) refl
+tells-is ws (duplicate i earlier) (outcome.Refused (CoreSpot name p) (Duplicate e)) h = rw (name-is ws i name h.0.0, h.0.1, h.1) refl
+tells-is ws (ends i deep) (outcome.Limit name Depth) h = ap (λ (x : Bytes). outcome.Limit x Depth) (name-is ws i name h)
+tells-is ws v o h = absurd h
+
+-- ---- at two budgets
+
+unspent : (ws : List Written) (v : ListVerdict) (o : Outcome) → Tells ws v o → (i : ℕ) (p : List ℕ) → v ≡ spends i p → ⊥
+unspent ws v o h i p e = subst (λ x. Tells ws x o) e h
+
+same-verdict : (n m : ℕ) (ws : List Written) (o p : Outcome) → IsDecided n ws o → IsDecided m ws p → check_items m ws ≡ check_items n ws
+same-verdict n m ws o p h g =
+    sym (list-stays m n ws (check_items m ws) refl (unspent ws (check_items m ws) p g))
+    ∙ ap (λ (k : ℕ). check_items k ws) (omega arith) ∙ list-stays n m ws (check_items n ws) refl (unspent ws (check_items n ws) o h)
+
+decided-twice : (n : ℕ) (ws : List Written) (o p : Outcome) → IsDecided n ws o → (m : ℕ) × IsDecided m ws p → p ≡ o
+decided-twice n ws o p h g =
+    tells-is ws (check_items g.0 ws) p g.1 ∙ ap (outcome_of ws) (same-verdict n g.0 ws o p h g.1) ∙ sym (tells-is ws (check_items n ws) o h)
+
+pub one-verdict : (n : ℕ) (ws : List Written) (o p : Outcome) → IsDecided n ws o → IsVerdict n ws p → p ≡ o
+one-verdict n ws o (outcome.Undecided spot budget) h g =
+    let spent = undecided-spent n g.4 ws g.1 g.2 g.5 in absurd (unspent ws (check_items n ws) o h spent.0 spent.1 spent.2)
+one-verdict n ws o (outcome.Ok modules items) h g = decided-twice n ws o _ h g
+one-verdict n ws o (outcome.Refused spot why) h g = decided-twice n ws o _ h g
+one-verdict n ws o (outcome.Limit name what) h g = decided-twice n ws o _ h g
+one-verdict n ws o (outcome.Malformed file at what) h g = decided-twice n ws o _ h g
+one-verdict n ws o outcome.Usage h g = decided-twice n ws o _ h g
+one-verdict n ws o (outcome.ReadFault file) h g = decided-twice n ws o _ h g
+one-verdict n ws o (outcome.WriteFault file) h g = decided-twice n ws o _ h g
+one-verdict n ws o outcome.NoMemory h g = decided-twice n ws o _ h g
+one-verdict n ws o (outcome.Missing file) h g = decided-twice n ws o _ h g

@@ -1,0 +1,36 @@
+-- The whole of a call of `core`.
+use Rattle.std.specs.Prelude.{◌≡◌, ◌⊎◌, ◌+◌, ◌≤◌, ◌++◌, ℕ, List, [], ◌∷◌, Option, Some, IfSome, length}
+use Rattle.cdle_folder.specs.Files.{Bytes, Files, Reads, with_read}
+use Rattle.cdle_model.specs.CoreText.{Says}
+use Rattle.cdle_model.specs.Forms.{Written}
+use Rattle.build_drive.specs.Sights.{Visit, Sight, Saw, most_bytes, text_seen}
+use Rattle.build_drive.specs.Checks.{IsVerdict}
+use Rattle.build_drive.specs.Answers.{IsOutcome, names_of, most_items}
+use Rattle.build_drive.specs.Reports.{report_of}
+use Rattle.build_drive.specs.declared.done.Done.{Done}
+use Rattle.build_drive.specs.declared.outcome.Outcome.{Outcome}
+use Rattle.build_drive.specs.declared.outcome.Outcome.TheVariants as outcome
+
+-- the report is that of the outcome, over the text of the file at which the call ended
+abbrev pub IsReported : Bytes → Done → Type 0
+IsReported text d = d.report.items ≡ report_of text d.outcome
+
+-- this was seen of the files, and the outcome and the report are of it
+abbrev pub IsWork : (List Written → Outcome → Type 0) → Visit → List Bytes → Done → Type 0
+IsWork Verdict v files d = (s : Sight) × Saw v v.given files s × IsOutcome Verdict [] s d.outcome × IsReported (text_seen s) d
+
+-- The end of a call on these files, with n units for each comparison and each head form. Memory may run out anywhere; then there is no report.
+abbrev pub IsCall : ℕ → Visit → List Bytes → Done → Type 0
+IsCall n v files d = (d.outcome ≡ outcome.NoMemory) × (d.report.items ≡ []) ⊎ IsWork (IsVerdict n) v files d
+
+-- These files, read in this call when its reads had given that much, are read to their ends, and say in their order all the items behind es.
+abbrev pub AreRead : Visit → Option Reads → List Written → List Bytes → List Written → Type 0
+AreRead v given es [] all = (v.given_after ≡ given) × (all ≡ es)
+AreRead v given es (file ∷ files) all = (bytes : Bytes) × (ws : List Written) × IfSome v.files (λ f. f file ≡ Some bytes) × Says bytes (names_of es) ws
+    × AreRead v (with_read file bytes given) (es ++ ws) files all
+
+-- these files are in the folder, within the limits, and say in their order all the items behind es
+abbrev pub AreThere : Files → List Written → List Bytes → List Written → Type 0
+AreThere f es [] all = all ≡ es
+AreThere f es (file ∷ files) all = (bytes : Bytes) × (ws : List Written) × (f file ≡ Some bytes) × (length bytes ≤ most_bytes) × Says bytes (names_of es) ws
+    × (length es + length ws ≤ most_items) × AreThere f (es ++ ws) files all

@@ -1,0 +1,47 @@
+-- What the parts of a call's work come to.
+use Rattle.std.specs.Prelude.{◌≡◌, ◌+◌, ◌≤◌, List, [], ◌∷◌, Option, Some, None, IfSome, length}
+use Rattle.cdle_folder.specs.Files.{Bytes, Reads, with_read}
+use Rattle.cdle_folder.specs.declared.outside.ReadStop.{ReadStop}
+use Rattle.cdle_folder.specs.declared.outside.ReadStop.TheVariants as stop
+use Rattle.cdle_model.specs.CoreNames.{Name}
+use Rattle.cdle_model.specs.CoreText.{Says}
+use Rattle.cdle_model.specs.Forms.{Written}
+use Rattle.build_drive.specs.Sights.{Visit, Sight, absent, too_long, unread, Saw, most_bytes, text_seen}
+use Rattle.build_drive.specs.Answers.{IsEnd, IsOutcome, IsStopped, most_items}
+use Rattle.build_drive.specs.Calls.{IsReported, IsWork}
+use Rattle.build_drive.specs.declared.done.Stop.{Stop}
+use Rattle.build_drive.specs.declared.done.Stop.TheVariants as stops
+use Rattle.build_drive.specs.declared.outcome.Outcome.{Outcome}
+
+-- what is seen where a file is not read; nothing where memory ran out
+abbrev pub sight_of_stop : Bytes → ReadStop → Option Sight
+sight_of_stop file stop.Failed = Some (unread file)
+sight_of_stop file stop.Absent = Some (absent file)
+sight_of_stop file stop.TooLong = Some (too_long file)
+sight_of_stop file stop.NoMemory = None
+
+-- a file was read, which said these items behind those of these names
+abbrev pub IsRead : Visit → Bytes → List Name → List Written → Type 0
+IsRead v file known ws = (bytes : Bytes) × (v.given_after ≡ with_read file bytes v.given) × (length bytes ≤ most_bytes) × IfSome v.files (λ f. f file ≡ Some bytes)
+    × Says bytes known ws × (length known + length ws ≤ most_items)
+
+-- the call ends with this at the file that came next, unless memory ran out
+abbrev pub EndsAt : Visit → Bytes → List Name → Stop → Type 0
+EndsAt v file known stops.NoMemory = Unit {0}
+EndsAt v file known (stops.Ended d) = (s : Sight) × Saw v v.given (file ∷ []) s × IsStopped known s d.outcome × IsReported (text_seen s) d
+
+-- the call ends with this at these bytes of the file, unless memory ran out
+abbrev pub EndsIn : Bytes → Bytes → List Name → Stop → Type 0
+EndsIn file bytes known stops.NoMemory = Unit {0}
+EndsIn file bytes known (stops.Ended d) = IsEnd known file bytes d.outcome × IsReported bytes d
+
+-- the call ends with this before the check, unless memory ran out
+abbrev pub EndsEarly : (List Written → Outcome → Type 0) → Visit → List Bytes → Stop → Type 0
+EndsEarly Verdict v files stops.NoMemory = Unit {0}
+EndsEarly Verdict v files (stops.Ended d) = IsWork Verdict v files d
+
+-- The reads have given so much, and said the items es, and these files are left: whatever is then seen of them, with its outcome, makes up
+-- what is seen of all files, with that outcome and of the same text.
+abbrev pub HasCome : (List Written → Outcome → Type 0) → Visit → List Bytes → Option Reads → List Written → List Bytes → Type 0
+HasCome Verdict v files given es left = (s : Sight) (o : Outcome) → Saw v given left s → IsOutcome Verdict es s o
+    → (t : Sight) × Saw v v.given files t × IsOutcome Verdict [] t o × (text_seen t ≡ text_seen s)

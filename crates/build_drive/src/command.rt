@@ -1,0 +1,121 @@
+//! The command `core`.
+ghost use Rattle.std.specs.Prelude.{◌≡◌, ◌≤◌, ◌⊎◌, [], ℕ, IfErr, IfOk, List, Some, length, map, string_bytes};
+ghost use Rattle.cdle_folder.specs.Causes.{Quiet};
+ghost use Rattle.cdle_folder.specs.Files.{Files};
+ghost use Rattle.cdle_model.specs.Check.{accepts, check_items};
+ghost use Rattle.cdle_model.specs.Derivation.{AreDerived};
+ghost use Rattle.cdle_model.specs.Forms.{Written};
+ghost use Rattle.build_drive.specs.Answers.{IsOutcome};
+ghost use Rattle.build_drive.specs.Calls.{AreRead, AreThere, IsCall, IsWork};
+ghost use Rattle.build_drive.specs.Checks.{HaveNone, IsDecided, IsSpot, IsVerdict};
+ghost use Rattle.build_drive.specs.Sights.{IsThere, Sight};
+ghost use Rattle.build_drive.specs.Works.{EndsEarly};
+ghost use Rattle.build_drive.specs.declared.outcome.Outcome.{Outcome as OutcomeOf};
+ghost use Rattle.build_drive.specs.declared.outcome.Reason.{Reason as ReasonOf};
+ghost use Rattle.build_drive.specs.declared.outcome.Spot.{Spot as SpotOf};
+ghost use Rattle.build_drive.specs.declared.outcome.Outcome.TheVariants.{NoMemory as Wanted, Ok as Accepted, Refused as Rejected};
+
+use crate::check::checked;
+use crate::done::{Done, Stop};
+use crate::outcome::Outcome;
+use crate::reading::read_files;
+use cdle_folder::Folder;
+use std::alloc::Global;
+
+/// Reads these files in their order, each behind the earlier ones, and checks all their items together, with so many units for each
+/// comparison and each head form. With no files it accepts none.
+pub fn core_command<F: Folder>(
+    alloc: Global,
+    files: &Vec<String>,
+    budget: u64,
+    folder: &mut F,
+) -> Done
+    requires { budget ≤ 10000000 }
+
+    // The end of the call with its cause: what was seen of the files, and what they say.
+    ensures call { IsCall budget (record {
+      files = F.files folder.old;
+      given = F.given folder.old;
+      given_after = F.given folder.new;
+      read_faults = F.read_faults folder.old;
+      read_faults_after = F.read_faults folder.new;
+      absences = F.absences folder.old;
+      absences_after = F.absences folder.new;
+    }) (map string_bytes files.now.items) result }
+
+    // Accepted: each file in its order is read to its end, and the list of all items has a derivation.
+    ensures accepted { (modules items : ℕ) → result.outcome ≡ Accepted modules items → (all : List Written) × AreRead (record {
+      files = F.files folder.old;
+      given = F.given folder.old;
+      given_after = F.given folder.new;
+      read_faults = F.read_faults folder.old;
+      read_faults_after = F.read_faults folder.new;
+      absences = F.absences folder.old;
+      absences_after = F.absences folder.new;
+    }) (F.given folder.old) [] (map string_bytes files.now.items) all × AreDerived all × (items ≡ length all) }
+
+    // Refused: likewise each file is read, and the items up to the one that is named have no derivation.
+    ensures refused { (place : SpotOf) (why : ReasonOf) → result.outcome ≡ Rejected place why → (all : List Written) × AreRead (record {
+      files = F.files folder.old;
+      given = F.given folder.old;
+      given_after = F.given folder.new;
+      read_faults = F.read_faults folder.old;
+      read_faults_after = F.read_faults folder.new;
+      absences = F.absences folder.old;
+      absences_after = F.absences folder.new;
+    }) (F.given folder.old) [] (map string_bytes files.now.items) all × (i : ℕ) × (path : List ℕ) × IsSpot all i path place × HaveNone all i }
+
+    // No file is written.
+    ensures files { F.files folder.new ≡ F.files folder.old }
+
+    // Where the folder tells its files, and none of its faults is counted, then what is there to see is seen; and where the plain check with
+    // this budget is not spent, there is one outcome, in whose place only want of memory may be answered.
+    ensures exact { (f : Files) (s : Sight) (o : OutcomeOf) → F.files folder.old ≡ Some f → Quiet (F.read_faults folder.old) (F.read_faults folder.new)
+        → IsThere f (map string_bytes files.now.items) s → IsOutcome (IsDecided budget) [] s o → (result.outcome ≡ o) ⊎ (result.outcome ≡ Wanted) }
+
+    // So it accepts wherever the files are there, within the limits, and the plain check with this budget accepts their items.
+    ensures complete { (f : Files) (all : List Written) → F.files folder.old ≡ Some f → Quiet (F.read_faults folder.old) (F.read_faults folder.new)
+        → AreThere f [] (map string_bytes files.now.items) all → check_items budget all ≡ accepts
+        → (result.outcome ≡ Accepted 0 (length all)) ⊎ (result.outcome ≡ Wanted) }
+{
+    match work(alloc, files, budget, folder) {
+        Ok(done) => done,
+        Err(Stop::Ended(done)) => done,
+        Err(Stop::NoMemory) => Done {
+            outcome: Outcome::NoMemory,
+            report: Vec::new(alloc),
+        },
+    }
+}
+
+/// The work of the command: all files, and then the check.
+fn work<F: Folder>(
+    alloc: Global,
+    files: &Vec<String>,
+    budget: u64,
+    folder: &mut F,
+) -> Result<Done, Stop>
+    requires { budget ≤ 10000000 }
+    ensures files { F.files folder.new ≡ F.files folder.old }
+    ensures done { IfOk result (IsWork (IsVerdict budget) (record {
+      files = F.files folder.old;
+      given = F.given folder.old;
+      given_after = F.given folder.new;
+      read_faults = F.read_faults folder.old;
+      read_faults_after = F.read_faults folder.new;
+      absences = F.absences folder.old;
+      absences_after = F.absences folder.new;
+    }) (map string_bytes files.now.items)) }
+    ensures ended { IfErr result (EndsEarly (IsVerdict budget) (record {
+      files = F.files folder.old;
+      given = F.given folder.old;
+      given_after = F.given folder.new;
+      read_faults = F.read_faults folder.old;
+      read_faults_after = F.read_faults folder.new;
+      absences = F.absences folder.old;
+      absences_after = F.absences folder.new;
+    }) (map string_bytes files.now.items)) }
+{
+    let read = read_files(alloc, files, folder)?;
+    Ok(checked(alloc, &read, budget)?)
+}

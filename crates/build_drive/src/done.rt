@@ -1,0 +1,62 @@
+//! What a command comes to, with its report.
+ghost use Rattle.std.specs.Prelude.{◌≡◌, IfOk};
+ghost use Rattle.build_drive.specs.Reports.{IsShown};
+ghost use Rattle.build_drive.specs.Calls.{IsReported};
+ghost use Rattle.build_drive.specs.declared.done.Stop.TheVariants.{NoMemory as Wanted};
+
+use crate::outcome::Outcome;
+use crate::reports::report;
+use cdle_model::NoMemory;
+use std::alloc::{AllocError, AllocFailed, Global};
+
+/// The outcome of a command, and its report. That memory is wanting has no report here: the caller says so without any.
+#[derive(Drop)]
+pub struct Done {
+    pub outcome: Outcome,
+    pub report: Vec<u8>,
+}
+
+impl Done {
+    /// This outcome, reported over the text of the file at which the call ended.
+    pub(crate) fn new(alloc: Global, outcome: Outcome, text: &[u8]) -> Result<Done, NoMemory>
+        requires { IsShown text.now outcome }
+        ensures outcome { IfOk result (λ done. done.outcome ≡ outcome) }
+        ensures report { IfOk result (IsReported text.now) }
+    {
+        let report = report(alloc, &outcome, text)?.into_bytes();
+        Ok(Done { outcome, report })
+    }
+}
+
+/// Why a part of the work gives nothing.
+#[derive(Drop)]
+pub(crate) enum Stop {
+    /// The command ends here.
+    Ended(Done),
+    /// Memory was wanted and not there.
+    NoMemory,
+}
+
+impl From<NoMemory> for Stop {
+    ghost from_gives = { λ _ stop. stop ≡ Wanted };
+
+    fn from(_: NoMemory) -> Stop {
+        Stop::NoMemory
+    }
+}
+
+impl From<AllocError> for Stop {
+    ghost from_gives = { λ _ stop. stop ≡ Wanted };
+
+    fn from(_: AllocError) -> Stop {
+        Stop::NoMemory
+    }
+}
+
+impl<T: Drop> From<AllocFailed<T>> for Stop {
+    ghost from_gives = { λ _ stop. stop ≡ Wanted };
+
+    fn from(_: AllocFailed<T>) -> Stop {
+        Stop::NoMemory
+    }
+}

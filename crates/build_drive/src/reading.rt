@@ -1,0 +1,207 @@
+//! Reading the files, one behind the other.
+ghost use Rattle.std.specs.Prelude.{◌≡◌, ◌+◌, ◌≤◌, [], ℕ, List, IfErr, IfOk, MatchOption, length, map, string_bytes};
+ghost use Rattle.cdle_model.specs.Classes.{AreItems};
+ghost use Rattle.cdle_model.specs.CoreNames.{Name};
+ghost use Rattle.cdle_model.specs.CoreText.{Says};
+ghost use Rattle.cdle_model.specs.Report.{wanted_word};
+ghost use Rattle.core_check.specs.Items.{items_of};
+ghost use Rattle.core_text.specs.File.{IsFaultOf};
+ghost use Rattle.core_text.specs.Scope.{known_names};
+ghost use Rattle.core_text.specs.View.{IsPlaced};
+ghost use Rattle.build_drive.specs.Answers.{IsEnd, IsStopped, most_items};
+ghost use Rattle.build_drive.specs.Checks.{IsVerdict};
+ghost use Rattle.build_drive.specs.Reports.{IsShown};
+ghost use Rattle.build_drive.specs.Works.{EndsAt, EndsEarly, EndsIn, HasCome, IsRead, sight_of_stop};
+
+use crate::done::{Done, Stop};
+use crate::outcome::{Badness, Outcome};
+use cdle_folder::{Folder, ReadStop};
+use cdle_model::{CoreWanted, Count, NoMemory, Text};
+use core_text::{CoreScope, CoreTextFault, read_core, word_at};
+use core_tree::CoreFile;
+use std::alloc::Global;
+
+/// The most bytes of a file.
+const MOST_BYTES: u64 = 1_048_576;
+
+/// The most items of all files.
+const MOST_ITEMS: usize = 10_000;
+
+/// The files in their order, each behind the earlier ones.
+pub(crate) fn read_files<F: Folder>(
+    alloc: Global,
+    files: &Vec<String>,
+    folder: &mut F,
+) -> Result<Vec<CoreFile>, Stop>
+    ensures files { F.files folder.new ≡ F.files folder.old }
+    ensures items { IfOk result (λ read. AreItems (items_of read.items)) }
+    ensures few { IfOk result (λ read. length (items_of read.items) ≤ most_items) }
+    ensures read { IfOk result (λ read. (n : ℕ) → HasCome (IsVerdict n) (record {
+      files = F.files folder.old;
+      given = F.given folder.old;
+      given_after = F.given folder.new;
+      read_faults = F.read_faults folder.old;
+      read_faults_after = F.read_faults folder.new;
+      absences = F.absences folder.old;
+      absences_after = F.absences folder.new;
+    }) (map string_bytes files.now.items) (F.given folder.new) (items_of read.items) []) }
+    ensures ended { IfErr result (λ stop. (n : ℕ) → EndsEarly (IsVerdict n) (record {
+      files = F.files folder.old;
+      given = F.given folder.old;
+      given_after = F.given folder.new;
+      read_faults = F.read_faults folder.old;
+      read_faults_after = F.read_faults folder.new;
+      absences = F.absences folder.old;
+      absences_after = F.absences folder.new;
+    }) (map string_bytes files.now.items) stop) }
+{
+    let mut known = CoreScope::new(alloc);
+    let mut items = 0;
+    let mut read = Vec::new(alloc);
+    for file in files {
+        let next = read_file(alloc, file.as_str(), &known, items, folder)?;
+        known.add(alloc, &next)?;
+        items += next.items.len();
+        read.push(next)?;
+    }
+    Ok(read)
+}
+
+/// The next file, behind so many items of these names.
+fn read_file<F: Folder>(
+    alloc: Global,
+    file: &str,
+    known: &CoreScope,
+    items: usize,
+    folder: &mut F,
+) -> Result<CoreFile, Stop>
+    requires counted { items ≡ length (known_names known.now) }
+    requires few { items ≤ most_items }
+    ensures files { F.files folder.new ≡ F.files folder.old }
+    ensures read_faults { F.read_faults folder.old ≤ F.read_faults folder.new }
+    ensures absences { F.absences folder.old ≤ F.absences folder.new }
+    ensures read { IfOk result (λ read. IsRead (record {
+      files = F.files folder.old;
+      given = F.given folder.old;
+      given_after = F.given folder.new;
+      read_faults = F.read_faults folder.old;
+      read_faults_after = F.read_faults folder.new;
+      absences = F.absences folder.old;
+      absences_after = F.absences folder.new;
+    }) file.now (known_names known.now) read.items) }
+    ensures ended { IfErr result (EndsAt (record {
+      files = F.files folder.old;
+      given = F.given folder.old;
+      given_after = F.given folder.new;
+      read_faults = F.read_faults folder.old;
+      read_faults_after = F.read_faults folder.new;
+      absences = F.absences folder.old;
+      absences_after = F.absences folder.new;
+    }) file.now (known_names known.now)) }
+{
+    match folder.read(alloc, file, MOST_BYTES) {
+        Ok(text) => items_of_text(alloc, file, &text, known, items),
+        Err(stop) => {
+            let outcome = unread(alloc, file, stop)?;
+            Err(Stop::Ended(Done::new(alloc, outcome, b"")?))
+        }
+    }
+}
+
+/// The outcome where the file was not read.
+fn unread(alloc: Global, file: &str, stop: ReadStop) -> Result<Outcome, NoMemory>
+    ensures { IfOk result (λ outcome. (known : List Name) → MatchOption (sight_of_stop file.now stop) ⊥ (λ sight. IsStopped known sight outcome)) }
+{
+    let name = Text::new(alloc, file)?;
+    match stop {
+        ReadStop::Failed => Ok(Outcome::ReadFault { file: name }),
+        ReadStop::Absent => Ok(Outcome::Missing { file: name }),
+        ReadStop::TooLong => Ok(Outcome::Limit {
+            name,
+            what: Count::Bytes,
+        }),
+        ReadStop::NoMemory => Err(NoMemory),
+    }
+}
+
+/// The items that a text says behind so many of these names.
+fn items_of_text(
+    alloc: Global,
+    file: &str,
+    text: &[u8],
+    known: &CoreScope,
+    items: usize,
+) -> Result<CoreFile, Stop>
+    requires short { length text.now ≤ 1048576 }
+    requires counted { items ≡ length (known_names known.now) }
+    requires few { items ≤ most_items }
+    ensures says { IfOk result (λ read. Says text.now (known_names known.now) read.items × (length (known_names known.now) + length read.items ≤ most_items)) }
+    ensures ended { IfErr result (EndsIn file.now text.now (known_names known.now)) }
+{
+    match read_core(alloc, text, known) {
+        Ok(read) if items + read.items.len() <= MOST_ITEMS => Ok(read),
+        Ok(_) => {
+            let name = Text::new(alloc, file)?;
+            let what = Count::Items;
+            Err(Stop::Ended(Done::new(alloc, Outcome::Limit { name, what }, text)?))
+        }
+        Err(fault) => {
+            let outcome = malformed(alloc, file, text, fault)?;
+            Err(Stop::Ended(Done::new(alloc, outcome, text)?))
+        }
+    }
+}
+
+/// The outcome of a text that is none of the grammar and its scope.
+fn malformed(
+    alloc: Global,
+    file: &str,
+    text: &[u8],
+    fault: CoreTextFault,
+) -> Result<Outcome, NoMemory>
+    requires short { length text.now ≤ 1048576 }
+    requires fault { (known : List Name) × IsFaultOf text.now known fault }
+    requires placed { IsPlaced text.now fault }
+    ensures ended { IfOk result (λ outcome. (known : List Name) → IsFaultOf text.now known fault → IsEnd known file.now text.now outcome) }
+    ensures shown { IfOk result (IsShown text.now) }
+{
+    let file = Text::new(alloc, file)?;
+    let (at, what) = match fault {
+        CoreTextFault::NotUtf8 { at } => (at, Badness::NotUtf8),
+        CoreTextFault::BadText { at, wanted } => {
+            (at, Badness::Wanted(Text::new(alloc, word_of(wanted))?))
+        }
+        CoreTextFault::Unbound { at } => {
+            let name = Text::new(alloc, word_at(text, at))?;
+            (at, Badness::Unbound(name))
+        }
+        CoreTextFault::WrongClass { at } => {
+            let name = Text::new(alloc, word_at(text, at))?;
+            (at, Badness::WrongClass(name))
+        }
+        CoreTextFault::TooDeep { .. } => {
+            return Ok(Outcome::Limit {
+                name: file,
+                what: Count::Nesting,
+            });
+        }
+        CoreTextFault::NoMemory => return Err(NoMemory),
+    };
+    Ok(Outcome::Malformed { file, at, what })
+}
+
+/// The word for what the grammar wants.
+fn word_of(wanted: CoreWanted) -> &'static str
+    ensures { result.now ≡ wanted_word wanted }
+{
+    match wanted {
+        CoreWanted::Core => "core",
+        CoreWanted::One => "1",
+        CoreWanted::Item => "item",
+        CoreWanted::Name => "name",
+        CoreWanted::Kind => "kind",
+        CoreWanted::Ty => "type",
+        CoreWanted::Term => "term",
+        CoreWanted::Close => ")",
+    }
+}
