@@ -13,7 +13,7 @@ use Rattle.cdle_model.proofs.ApartNotJoined.{compare-apart}
 use Rattle.core_reduce.specs.declared.value.Value.{Value}
 use Rattle.core_reduce.specs.declared.reduce.Stop.{Stop}
 use Rattle.core_reduce.specs.declared.reduce.Stop.TheVariants.{Spent, TooDeep, NoMemory}
-use Rattle.core_reduce.proofs.Leads.{Leads, leads_none, leads_one, leads_on}
+use Rattle.core_reduce.proofs.Leads.{Leads, leads_one, leads_on}
 use Rattle.core_compare.specs.declared.pairs.SidePair.{SidePair}
 use Rattle.core_compare.specs.declared.comparison.Answer as declared
 use Rattle.core_compare.specs.declared.comparison.Answer.TheVariants as a
@@ -29,9 +29,6 @@ module _ (zs : List Sort) (s : List Tree) where
     pub leads : Leads (move s) (pairs ps) used (pairs (stack [] ds))
     pub taken : units ≤ used + left
     pub comparable : AreComparable zs ds
-
-  pub comparing_start : (units : ℕ) (ds : List SidePair) → AreComparable zs ds → Comparing (stack [] ds) units ds units
-  comparing_start units ds g = record { used = 0; leads = leads_none (move s) (pairs (stack [] ds)); taken = omega arith; comparable = g }
 
   pub comparing_same : (ps : List Pair) (units : ℕ) (ds : List SidePair) (left : ℕ) → Comparing ps units ds left → ds ≡ [] → Answers s (pairs ps) same
   comparing_same ps units ds left c e = record {

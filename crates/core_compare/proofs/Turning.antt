@@ -1,5 +1,5 @@
 -- A pair that was taken: its head forms, and what becomes of them.
-use Rattle.std.proofs.Common.{◌≡◌, ℕ, ◌+◌, ◌≤◌, true, false, List, [], Err, sym, ◌∙◌, subst, refl, ap, arith}
+use Rattle.std.proofs.Common.{◌≡◌, ℕ, ◌+◌, ◌≤◌, false, List, [], Err, sym, ◌∙◌, subst, refl, ap, arith}
 use Rattle.cdle_model.specs.declared.grammar.Sort.{Sort}
 use Rattle.cdle_model.specs.Trees.{Tree}
 use Rattle.cdle_model.specs.Classes.{within, Fits}
@@ -38,14 +38,6 @@ module _ (zs : List Sort) (s : List Tree) where
 
   takes_pair : (l r : Tree) (ps : List Pair) → same_name l r ≡ false → take_pair l r ps ≡ taken l r ps
   takes_pair l r ps e = rw e refl
-
-  pub turn_same : (l r : Tree) (old : List SidePair) (units : ℕ) → same_name l r ≡ true → TurnOn zs s l r old old units units
-  turn_same l r old units e = record {
-    used = 0;
-    leads = (let q : take_pair l r (stack [] old) ≡ pairs (stack [] old) = (rw e refl) in (leads_free (move s) (take_pair l r (stack [] old)) (pairs (stack [] old)) (ap (move s) q)).runs);
-    taken = omega arith;
-    comparable = λ g. g;
-  }
 
   pub left_err : (k : SideClass) (l r : Tree) (old new : List SidePair) (units left : ℕ) (z : Stop) → same_name l r ≡ false → MeetsHead s k l units left (Err z)
       → MeetsTurn zs s l r old new units left (Err z)
