@@ -1,8 +1,8 @@
 -- Two head forms of one class: the pairs in place of them, where these stand, and where the two differ.
-use Rattle.std.proofs.Common.{◌≡◌, ℕ, Bool, true, false, IfOk, Result, Ok, Err, ◌+◌, ◌≤◌, List, [], ◌∷◌, ◌++◌, length, Option, Some, None, Vec, Global, sym, ◌∙◌, subst, refl, ap, arith}
+use Rattle.std.proofs.Common.{◌≡◌, ℕ, Bool, true, false, IfOk, Result, Ok, Err, ◌+◌, ◌≤◌, List, [], ◌∷◌, ◌++◌, Option, Some, None, Vec, Global, sym, ◌∙◌, subst, refl, ap, arith}
 use Rattle.cdle_model.specs.declared.grammar.Sort.{Sort}
 use Rattle.cdle_model.specs.declared.grammar.Sort.TheVariants as so
-use Rattle.cdle_model.specs.Trees.{Tree, var, apply, IsBelow}
+use Rattle.cdle_model.specs.Trees.{Tree, var, apply}
 use Rattle.cdle_model.specs.Forms.{fn}
 use Rattle.cdle_model.specs.Classes.{pure_terms, within, Scope, Fits}
 use Rattle.cdle_model.specs.Comparison.{head_of, parts_of, function_of, pairs_of, applied, into, differ, split}
@@ -15,9 +15,8 @@ use Rattle.core_reduce.specs.declared.value.Value.{Value}
 use Rattle.core_reduce.specs.declared.value.Value.TheVariants as w
 use Rattle.core_reduce.specs.Sides.{Sided, class_trees}
 use Rattle.core_reduce.specs.Values.{applied_by, applied_to, former_class, former_parts, former_tree, classes, IsArgument, AreArguments, value_tree}
-use Rattle.core_reduce.proofs.Scopes.{fits_below_bound}
 use Rattle.core_compare.specs.declared.pairs.SidePair.{SidePair}
-use Rattle.core_compare.specs.Pairs.{AreComparable, stack, part_pairs, MeetsArguments, IsForm, AreForms, SettledInto, MeetsSettle}
+use Rattle.core_compare.specs.Pairs.{AreComparable, stack, part_pairs, MeetsArguments, IsForm, SettledInto, MeetsSettle}
 use Rattle.core_compare.proofs.Heads.{trees, split_same, split_differ, IsVariable, variable_against, args_other, variable_head, variable_trees, variables_one, variables_same, former_head, former_one, former_variable, former_so}
 use Rattle.core_compare.proofs.Stacks.{comparable_append, stack_append, parts_stacked, bound, PartsFit, few_binders, part_comparable, parts_comparable}
 
@@ -243,13 +242,3 @@ former_against x ps i xs k g h =
     let u = former_so x ps.items g.0.1 g.1 in
     split_differ (former_tree x ps.items) (applied_to k (var i) xs.items) u.other (args_other k (var i) xs.items refl)
     (λ e. former_variable x (subst IsVariable (sym e ∙ u.head) (variable_head k i xs.items)))
-
--- a function and a variable in one context have room for one variable more
-pub forms_below : (n : ℕ) (v x : Value) → (g : AreForms n v x) → g.class ≡ OfPure → IsBelow 4290000000 (value_tree OfPure v) × IsBelow 4290000000 (value_tree OfPure x)
-forms_below n v x g e =
-    let p = g.placed in
-    let f = p.few in
-    let l : length p.sorts ≤ 4290000000 = (let m = g.few in omega arith) in (
-      subst (λ c. IsBelow 4290000000 (value_tree c v)) e (fits_below_bound 4290000000 p.sorts g.items (class_trees g.class) (value_tree g.class v) l p.left),
-      subst (λ c. IsBelow 4290000000 (value_tree c x)) e (fits_below_bound 4290000000 p.sorts g.items (class_trees g.class) (value_tree g.class x) l p.right),
-    )

@@ -2,7 +2,7 @@
 use Rattle.std.proofs.Common.{◌≡◌, ℕ, zero, suc, ◌+◌, ◌<◌, ◌≤◌, ltb, false, List, [], ◌∷◌, ◌++◌, length, get_or, drop, sym, ◌∙◌, subst, refl, ap, arith}
 use Rattle.std.proofs.lemmas.Bool.{le-ltb}
 use Rattle.std.proofs.Math.Seq.{drop-cons, drop-length}
-use Rattle.cdle_model.specs.Trees.{of_pure, Tree, var, apply, shift, IsBelow}
+use Rattle.cdle_model.specs.Trees.{of_pure, Tree, var, apply, shift}
 use Rattle.cdle_model.specs.Classes.{pure_terms, IsOf}
 use Rattle.cdle_model.specs.Comparison.{applied}
 use Rattle.core_reduce.specs.declared.root.Arg.{Arg}
@@ -38,18 +38,6 @@ pub argument_class : (xs : List Sided) (n : ℕ) (x : Sided) → AreArguments Of
 argument_class [] n x h l e = absurd (omega arith)
 argument_class (y ∷ xs) zero x h l e = ap (λ (z : Sided). z.class) e ∙ pure_class y.class h.0
 argument_class (y ∷ xs) (suc n) x h l e = argument_class xs n x h.1 (omega arith) e
-
-head_below : (m : ℕ) (h : Tree) (xs : List Sided) → IsBelow m (applied_to OfPure h xs) → IsBelow m h
-head_below m h [] g = g
-head_below m h (x ∷ xs) g = (head_below m (apply of_pure h x.tree) xs g).0
-
-pub argument_below : (m : ℕ) (h : Tree) (xs : List Sided) (n : ℕ) (x : Sided) → IsBelow m (applied_to OfPure h xs) → n < length xs → x ≡ get_or xs n x → IsBelow m x.tree
-argument_below m h [] n x g l e = absurd (omega arith)
-argument_below m h (y ∷ xs) zero x g l e = subst (λ (z : Sided). IsBelow m z.tree) (sym e) (head_below m (apply of_pure h y.tree) xs g).1
-argument_below m h (y ∷ xs) (suc n) x g l e = argument_below m (apply of_pure h y.tree) xs n x g (omega arith) e
-
-pub index_below : (m i : ℕ) (xs : List Sided) → IsBelow m (applied_to OfPure (var i) xs) → i < m
-index_below m i xs g = head_below m (var i) xs g
 
 pub shift_applied : (h : Tree) (xs : List Sided) → Tree
 shift_applied h [] = h

@@ -2,7 +2,8 @@
 ghost use Rattle.std.specs.Prelude.{◌≡◌, IfOk};
 ghost use Rattle.cdle_model.specs.Comparison.{applied};
 ghost use Rattle.cdle_model.specs.Forms.{fn};
-ghost use Rattle.cdle_model.specs.Trees.{IsBelow, var};
+ghost use Rattle.cdle_model.specs.Classes.{IsOf, pure_terms};
+ghost use Rattle.cdle_model.specs.Trees.{shift, var};
 ghost use Rattle.core_reduce.specs.Values.{AreArguments, IsValueOf, applied_to, value_tree};
 ghost use Rattle.core_reduce.specs.declared.side.SideClass.TheVariants.{OfPure};
 
@@ -13,11 +14,14 @@ use cdle_model::NoMemory;
 use core_tree::Pure;
 use std::alloc::Global;
 
+/// The most variables over which a term is raised here; more would not fit their numbers under binders.
+const MOST_VARIABLES: u32 = 4_290_000_000;
+
 impl Value {
-    /// The pure term applied to a new variable, whose number is 0. It takes no units.
+    /// The pure term applied to a new variable, whose number is 0. It takes no units. Where the term has more than 4,290,000,000 variables the
+    /// answer is want of memory.
     pub fn applied(&self, alloc: Global) -> Result<Side, NoMemory>
         requires class { IsValueOf OfPure self.now }
-        requires below { IsBelow 4290000000 (value_tree OfPure self.now) }
         ensures { IfOk result (λ s. s ≡ record { class = OfPure; tree = applied (value_tree OfPure self.now) }) }
     {
         match self {
@@ -28,9 +32,24 @@ impl Value {
     }
 }
 
+/// The term over one more variable, whose number is 0.
+fn raised(alloc: Global, term: &Pure) -> Result<Pure, NoMemory>
+    ensures is { IfOk result (λ t. t ≡ shift 0 1 term.now) }
+    ensures class { IfOk result (IsOf pure_terms) }
+{
+    if term.free() > MOST_VARIABLES as u64 {
+        return Err(NoMemory);
+    }
+    term.known();
+    // Asked for its bound alone.
+    let _depth = term.depth();
+    let raised = term.shift(alloc, 0, 1)?;
+    raised.known();
+    Ok(raised)
+}
+
 fn applied_function(alloc: Global, body: &Side) -> Result<Side, NoMemory>
     requires class { body.now.class ≡ OfPure }
-    requires below { IsBelow 4290000000 (fn body.now.tree) }
     ensures { IfOk result (λ s. s ≡ record { class = OfPure; tree = applied (fn body.now.tree) }) }
 {
     let body = body.flat_pure(alloc)?;
@@ -38,33 +57,27 @@ fn applied_function(alloc: Global, body: &Side) -> Result<Side, NoMemory>
         return Err(NoMemory);
     }
     let function = Pure::function(alloc, &body)?;
-    function.known();
-    // Asked for its bound alone.
-    let _depth = function.depth();
-    let raised = function.shift(alloc, 0, 1)?;
-    raised.known();
+    let function = raised(alloc, &function)?;
     let mut args = Vec::new(alloc);
     args.push(Arg::Ap(Pure::var(alloc, 0)?))?;
-    Side::applied(alloc, raised, args)
+    Side::applied(alloc, function, args)
 }
 
 fn applied_variable(alloc: Global, index: u32, args: &Vec<Side>) -> Result<Side, NoMemory>
     requires class { AreArguments OfPure args.now.items }
-    requires below { IsBelow 4290000000 (applied_to OfPure (var index) args.now.items) }
     ensures { IfOk result (λ s. s ≡ record { class = OfPure; tree = applied (applied_to OfPure (var index) args.now.items) }) }
 {
+    if index >= MOST_VARIABLES {
+        return Err(NoMemory);
+    }
     let mut all = Vec::new(alloc);
     all.push(Arg::Ap(Pure::var(alloc, 0)?))?;
     let mut k = args.len();
     'raised: while k > 0 {
         k -= 1;
         let arg = args[k].flat_pure(alloc)?;
-        arg.known();
-        // Asked for its bound alone.
-        let _depth = arg.depth();
-        let raised = arg.shift(alloc, 0, 1)?;
-        raised.known();
-        all.push(Arg::Ap(raised))?;
+        let arg = raised(alloc, &arg)?;
+        all.push(Arg::Ap(arg))?;
     }
     let head = Pure::var(alloc, index + 1)?;
     Side::applied(alloc, head, all)

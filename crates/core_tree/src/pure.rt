@@ -130,7 +130,7 @@ impl Pure {
     }
 
     /// One more than the largest free variable, and 0 of a closed tree.
-    pub(crate) fn free(&self) -> u64
+    pub fn free(&self) -> u64
         ensures { result ≡ free_bound self.now }
     {
         self.node.free

@@ -1,15 +1,6 @@
-use Rattle.std.proofs.Common.{subst, refl}
-use Rattle.core_compare.specs.Pairs.{IsForm}
-use Rattle.core_compare.proofs.Settling.{form_pure, settled_functions, settled_left, settled_right, settled_by, variables_differ, settled_formers, formers_differ, variable_former, former_against, forms_below}
+use Rattle.std.proofs.Common.{refl}
+use Rattle.core_compare.proofs.Settling.{settled_functions, settled_left, settled_right, settled_by, variables_differ, settled_formers, formers_differ, variable_former, former_against}
 use Rattle.core_compare.proofs.settle.settle.Goals as goal
-
-pub applied-requires-clause-below : goal.applied-requires-clause-below
-applied-requires-clause-below c =
-    (forms_below c.args.binders c.args.left.now c.args.right.now c.requires (form_pure c.requires.class c.in-Fun-Var.left (subst (IsForm c.requires.class) c.in-Fun-Var.is-0 c.requires.left))).1
-
-pub applied-requires-in-Var-Fun-clause-below : goal.applied-requires-in-Var-Fun-clause-below
-applied-requires-in-Var-Fun-clause-below c =
-    (forms_below c.args.binders c.args.left.now c.args.right.now c.requires (form_pure c.requires.class c.in-Var-Fun.right (subst (IsForm c.requires.class) c.in-Var-Fun.is-1 c.requires.right))).0
 
 pub returns-in_ok-put_bodies-in-Fun-Fun : goal.returns-in_ok-put_bodies-in-Fun-Fun
 returns-in_ok-put_bodies-in-Fun-Fun c =

@@ -1,12 +1,11 @@
-use Rattle.std.proofs.Common.{◌≡◌, ◌-◌, ◌<◌, [], ◌∷◌, ◌∙◌, IfOk, ap, sym, subst, refl, arith}
-use Rattle.cdle_model.specs.Trees.{shift, var, IsBelow}
-use Rattle.core_tree.proofs.Puts.{fits_pure}
+use Rattle.std.proofs.Common.{◌≡◌, ◌-◌, [], ◌∷◌, ◌∙◌, IfOk, ap, subst, refl, arith}
+use Rattle.cdle_model.specs.Trees.{shift, var}
 use Rattle.core_reduce.specs.declared.root.Arg.TheVariants.{Ap}
 use Rattle.core_reduce.specs.declared.side.SideClass.TheVariants.{OfPure}
 use Rattle.cdle_model.specs.Comparison.{applied}
 use Rattle.core_reduce.specs.Sides.{Sided, spine}
 use Rattle.core_reduce.specs.Values.{applied_to}
-use Rattle.core_reduce.proofs.Raising.{raised_start, raised_more, raised_end, argument_class, argument_below, index_below}
+use Rattle.core_reduce.proofs.Raising.{raised_start, raised_more, raised_end, argument_class}
 use Rattle.core_reduce.proofs.applied.applied_variable.Goals as goal
 
 pub raised-init : goal.raised-init
@@ -20,24 +19,12 @@ flat_pure-requires c =
     let b = c.raised.invariant.below in let t = c.raised-test.true in
     argument_class c.args.args.now.items (c.raised.k - 1) c.index.result.now c.requires.class (omega arith) c.index.ensures
 
-pub shift-requires : goal.shift-requires
-shift-requires c =
-    let b = c.raised.invariant.below in let t = c.raised-test.true in
-    let d = c.depth-depth.ensures.is in let l = c.depth-depth.ensures.bounded in
-    fits_pure 1 c.in_ok-arg.arg c.known.ensures
-    (subst (IsBelow 4290000000) (sym c.in_ok-arg.ensures)
-    (argument_below 4290000000 (var c.args.index) c.args.args.now.items (c.raised.k - 1) c.index.result.now c.requires.below (omega arith) c.index.ensures))
-    (omega arith) (omega arith)
-
 pub raised-preserved : goal.raised-preserved
 raised-preserved c =
     let t = c.raised-test.true in
     rw c.in_ok-push-2.ensures.items
-    (raised_more c.args.args.now.items c.raised.k (c.raised.k - 1) c.raised.all.items c.index.result.now c.in_ok-raised.raised c.raised.invariant (omega arith) c.index.ensures
-    (c.in_ok-raised.ensures ∙ ap (shift 0 1) c.in_ok-arg.ensures) c.known-in-raised.ensures)
-
-pub overflow_add-index : goal.overflow_add-index
-overflow_add-index c = let l : c.args.index < 4290000000 = index_below 4290000000 c.args.index c.args.args.now.items c.requires.below in omega arith
+    (raised_more c.args.args.now.items c.raised.k (c.raised.k - 1) c.raised.all.items c.index.result.now c.in_ok-arg-2.arg c.raised.invariant (omega arith) c.index.ensures
+    (c.in_ok-arg-2.ensures.is ∙ ap (shift 0 1) c.in_ok-arg.ensures) c.in_ok-arg-2.ensures.class)
 
 pub returns : goal.returns
 returns c =
