@@ -2,7 +2,7 @@
 use Rattle.std.proofs.Common.{◌≡◌, inl, inr, ℕ, ◌+◌, ◌<◌, List, [], ◌∷◌, ◌++◌, length, Option, Some, None, subst, arith, length-append}
 use Rattle.cdle_model.specs.Check.{Finding, gives, refused, spent_at, halts, ListVerdict, accepts, refuses, spends, ends, duplicate, by_name, by_finding, check_item, check_after, check_items, UndecidedAfter, IsUndecided, Reason}
 use Rattle.cdle_model.specs.Forms.{Written, name_of}
-use Rattle.cdle_model.specs.FirstCheck.{first_of}
+use Rattle.cdle_model.specs.Check.{first_of}
 use Rattle.cdle_model.specs.HeadForms.{Halt}
 
 -- the number of the item is below this one

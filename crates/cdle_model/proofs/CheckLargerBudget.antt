@@ -6,7 +6,7 @@ use Rattle.cdle_model.specs.Machine.{Outcome, answered, spent}
 use Rattle.cdle_model.specs.HeadForms.{HeadAnswer, value, no_value, head_form}
 use Rattle.cdle_model.specs.Comparison.{Answer, same, apart, halted, compare}
 use Rattle.cdle_model.specs.Derivation.{bodies, signature}
-use Rattle.cdle_model.specs.FirstCheck.{first_of}
+use Rattle.cdle_model.specs.Check.{first_of}
 use Rattle.cdle_model.specs.Check.{Reason, Finding, gives, refused, spent_at, halts, Questions, finds, refuse, halt, ask_same, ask_head, infer_item, by_answer, by_head, answer, SpentAfter, ListVerdict, accepts, refuses, spends, ends, duplicate, by_name, by_finding, check_after, check_items}
 use Rattle.cdle_model.proofs.LargerBudget.{head_form_more, compare_more}
 

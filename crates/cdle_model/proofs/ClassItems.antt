@@ -10,7 +10,7 @@ use Rattle.cdle_model.specs.Steps.{IsSignature}
 use Rattle.cdle_model.specs.HeadForms.{Halt, deep}
 use Rattle.cdle_model.specs.Derivation.{Entry, term_of, type_of, Item, bodies, a_term, a_type, a_kind, signed, signature}
 use Rattle.cdle_model.specs.Fitting.{class_of, ItemHasErasures, HaveErasures, EntryFits, SignatureFits}
-use Rattle.cdle_model.specs.FirstCheck.{first_of}
+use Rattle.cdle_model.specs.Check.{first_of}
 use Rattle.cdle_model.specs.Check.{Finding, gives, refused, spent_at, halts, infer_item, ListVerdict, accepts, ends, by_name, by_finding, check_item, check_after, check_items}
 use Rattle.cdle_model.proofs.Lists.{get-left, get-last, get-snoc, length-sorts, sorts-snoc, signature-snoc}
 use Rattle.cdle_model.proofs.Signatures.{AreClosed, body-get, closed-items, closed-more, closed-none}

@@ -7,7 +7,7 @@ use Rattle.cdle_model.specs.Classes.{AreOver, AreItems}
 use Rattle.cdle_model.specs.Erasure.{erased}
 use Rattle.cdle_model.specs.Steps.{Joined}
 use Rattle.cdle_model.specs.Derivation.{Item, bodies, Judgement, a_term, a_type, a_kind, Has, converted, signature, IsNew, HasItem, DerivedAfter, AreDerived}
-use Rattle.cdle_model.specs.FirstCheck.{first_of}
+use Rattle.cdle_model.specs.Check.{first_of}
 use Rattle.cdle_model.specs.Check.{Reason, wrong_kind, mismatch, Finding, gives, refused, spent_at, halts, Questions, finds, ask_same, at_part, infer, infer_item, ListVerdict, accepts, refuses, spends, ends, duplicate, by_name, by_finding, check_item, check_after, check_items}
 use Rattle.cdle_model.proofs.Signatures.{ClosedItems, AreClosed, closed-items, closed-more, closed-none}
 use Rattle.cdle_model.proofs.NewNames.{NameTells, name-tells}

@@ -5,7 +5,6 @@ pub mod Bounds
 pub mod Placed
 pub mod Scoping
 pub mod CoreItems
-pub mod FirstChecked
 pub mod CoreReads
 pub mod CoreAgain
 pub mod CoreRuns

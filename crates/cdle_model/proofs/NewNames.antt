@@ -4,7 +4,7 @@ use Rattle.std.specs.Str.{bytes_eq}
 use Rattle.std.proofs.lemmas.Slice.Eq.{bytes_eq-Decides}
 use Rattle.cdle_model.specs.Forms.{Written, name_of}
 use Rattle.cdle_model.specs.Derivation.{IsNew}
-use Rattle.cdle_model.specs.FirstCheck.{first_of}
+use Rattle.cdle_model.specs.Check.{first_of}
 
 abbrev pub NameTells : List ℕ → List Written → Option ℕ → Type 0
 NameTells x es (Some e) = IsNew x es → ⊥

@@ -6,7 +6,7 @@ use Rattle.cdle_model.specs.Machine.{Outcome, answered, spent}
 use Rattle.cdle_model.specs.HeadForms.{HeadAnswer, value, no_value, head_form}
 use Rattle.cdle_model.specs.Comparison.{Answer, same, apart, halted, compare}
 use Rattle.cdle_model.specs.Derivation.{bodies, signature}
-use Rattle.cdle_model.specs.FirstCheck.{first_of}
+use Rattle.cdle_model.specs.Check.{first_of}
 use Rattle.cdle_model.specs.Check.{Finding, gives, refused, spent_at, halts, Questions, finds, refuse, halt, ask_same, ask_head, infer_item, by_answer, by_head, answer, SpentAfter, ListVerdict, spends, by_name, by_finding, check_item, check_after, check_items, UndecidedAfter, IsUndecided}
 use Rattle.cdle_model.proofs.CheckLargerBudget.{Firm, firm-answer, spent-after}
 

@@ -1,5 +1,5 @@
 -- The plain check: Core's rules read upwards in their order, as questions, each answered with n units by a comparison or a head form.
-use Rattle.std.specs.Prelude.{◌≡◌, ◌⊎◌, ℕ, ltb, cond, List, [], ◌∷◌, ◌++◌, length, Option, Some, None}
+use Rattle.std.specs.Prelude.{◌≡◌, ◌⊎◌, ℕ, suc, ltb, cond, List, [], ◌∷◌, ◌++◌, length, Option, Some, None, option_map, if◌then◌else◌}
 use Rattle.cdle_model.specs.Trees.{of_pure, Binder, Binder-discrete, pi_of, all_of, allt_of, iota_of, kpi_of, kpit_of, Tree, var, name, fun, bind, put, lacks}
 use Rattle.cdle_model.specs.Forms.{star, kpi, kpit, pi, all, allt, tlam, xtlam, at_, on, iota, eq, lam, elam, xlam, app, eapp, tapp, pair, fst, snd, beta, rho, phi, delta, Written, def_item, type_item, name_of}
 use Rattle.cdle_model.specs.Depth.{depth}
@@ -8,7 +8,7 @@ use Rattle.cdle_model.specs.Machine.{Outcome, answered, spent}
 use Rattle.cdle_model.specs.HeadForms.{Halt, deep, ill_classed, deepest, HeadAnswer, value, no_value, head_form}
 use Rattle.cdle_model.specs.Comparison.{Answer, same, apart, halted, compare}
 use Rattle.cdle_model.specs.Derivation.{Entry, term_of, type_of, entry, Item, bodies, item, Judgement, a_term, a_type, a_kind, true_pure, false_pure, signature}
-use Rattle.cdle_model.specs.FirstCheck.{first_of}
+use Rattle.std.specs.Str.{bytes_eq}
 
 -- why an item is refused, with the head form that was found, or with what was found and what was wanted, or with the two sides;
 -- a wanted kind of None means a product of that class; in `sides_differ` two pure sides stand as the equation of each with itself
@@ -168,6 +168,11 @@ pub data ListVerdict : Type 0 where
   spends : ℕ → List ℕ → ListVerdict
   ends : ℕ → Halt → ListVerdict
   duplicate : ℕ → ℕ → ListVerdict
+
+-- the first item of this name
+abbrev pub first_of : List ℕ → List Written → Option ℕ
+first_of x [] = None
+first_of x (w ∷ ws) = if bytes_eq (name_of w) x then Some 0 else option_map suc (first_of x ws)
 
 abbrev pub by_name : ℕ → Option ℕ → ListVerdict → ListVerdict
 by_name i (Some e) r = duplicate i e

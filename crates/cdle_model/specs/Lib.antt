@@ -12,7 +12,6 @@ pub mod Comparison
 pub mod Fitting
 pub mod Check
 pub mod Examples
-pub mod FirstCheck
 pub mod Code
 pub mod ItemCode
 pub mod CoreTokens

@@ -1,14 +1,12 @@
 //! The laws of the definitions. Each is the contract of a function with an empty body.
 ghost use Rattle.std.specs.Prelude.{◌≡◌, ◌⊎◌, ℕ, List, [], false, length};
 ghost use Rattle.std.specs.Str.{IsUtf8};
-ghost use Rattle.cdle_model.specs.Classes.{AreItems, AreOver};
+ghost use Rattle.cdle_model.specs.Classes.{AreOver};
 ghost use Rattle.cdle_model.specs.CoreFaults.{BadText, Fault};
 ghost use Rattle.cdle_model.specs.CoreNames.{Name, Names, with_items};
 ghost use Rattle.cdle_model.specs.CoreText.{Reads, Says, Stands};
 ghost use Rattle.cdle_model.specs.CoreTokens.{Token, tokens};
 ghost use Rattle.cdle_model.specs.CoreWants.{IsFirstBadPlace, IsFirstFault};
-ghost use Rattle.cdle_model.specs.Derivation.{AreDerived};
-ghost use Rattle.cdle_model.specs.FirstCheck.{AreFirstItems, accepts, first_check};
 ghost use Rattle.cdle_model.specs.Forms.{Written};
 ghost use Rattle.cdle_model.specs.Trees.{Tree};
 ghost use Rattle.cdle_model.specs.declared.grammar.Class.{Class};
@@ -41,9 +39,4 @@ pub fn bad_text_is_first()
 /// What a text says behind items is a list of items, each closed and over the earlier ones, with each variable and name used in its class.
 pub fn read_items_are_items()
     ensures { (bytes : List ℕ) (es ws : List Written) → Says bytes (with_items es []) ws → AreOver es ws }
-{}
-
-/// Where the check accepts a list of items of these forms, the list has a derivation.
-pub fn accepted_is_derived()
-    ensures { (ws : List Written) → AreItems ws → AreFirstItems ws → first_check ws ≡ accepts → AreDerived ws }
 {}

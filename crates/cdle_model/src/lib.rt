@@ -24,8 +24,8 @@ pub use core_laws::{
 };
 pub use grammar::{Class, CoreWanted, Count, Form, Piece, Sort};
 pub use laws::{
-    accepted_is_derived, bad_text_is_first, one_text_one_tree, read_items_are_items,
-    said_is_faultless, text_is_said_or_faulty,
+    bad_text_is_first, one_text_one_tree, read_items_are_items, said_is_faultless,
+    text_is_said_or_faulty,
 };
 use std::alloc::{AllocError, AllocFailed};
 pub use text::Text;
