@@ -237,3 +237,13 @@ items_read left known ts es (w ∷ ws) e h = (item_read left known ts w h.0 es e
 -- what a text says behind items is over these
 pub file_read : (left : ℕ) (ts : List Token) (es ws : List Written) → ReadsFile Stands left (with_items es []) ts ws → AreOver es ws
 file_read left ts es ws h = items_read left (with_items es []) h.body es ws (with_items_of [] [] es refl) h.items
+
+-- ---- lists of items behind each other
+
+pub over_both : (front es ws : List Written) → AreOver front es → AreOver (front ++ es) ws → AreOver front (es ++ ws)
+over_both front [] ws h g = subst (λ (vs : List Written). AreOver vs ws) (append-nil front) g
+over_both front (e ∷ es) ws h g = (h.0, over_both (front ++ (e ∷ [])) es ws h.1 (subst (λ (vs : List Written). AreOver vs ws) (sym (append_assoc front (e ∷ []) es)) g))
+
+pub names_both : (es ws : List Written) (known : List Name) → with_items (es ++ ws) known ≡ with_items ws (with_items es known)
+names_both [] ws known = refl
+names_both (e ∷ es) ws known = names_both es ws (with_item e known)

@@ -1,5 +1,5 @@
 -- The first fault of a Core text: what the grammar wants at each place, and what a token does there.
-use Rattle.std.specs.Prelude.{◌≡◌, ℕ, zero, suc, false, List, [], ◌∷◌, ◌++◌, length, if◌then◌else◌, codes, Option, Some, None, Result, Ok, Err}
+use Rattle.std.specs.Prelude.{◌≡◌, ℕ, zero, suc, ◌+◌, ◌-◌, false, List, [], ◌∷◌, ◌++◌, length, if◌then◌else◌, codes, Option, Some, None, Result, Ok, Err}
 use Rattle.std.specs.Str.{bytes_eq, IsUtf8}
 use Rattle.cdle_model.specs.Trees.{Tree}
 use Rattle.cdle_model.specs.declared.grammar.Sort.{Sort}
@@ -158,6 +158,24 @@ CanGoOn front = (more : List Token) × IsText (front ++ more)
 abbrev pub NoneGoesOn : List Token → List Token → Type 0
 NoneGoesOn front [] = ¬ (IsText front)
 NoneGoesOn front (t ∷ ts) = ¬ (CanGoOn (front ++ t ∷ []))
+
+-- so many are open behind a token, where so many are before it
+abbrev pub opened_by : ℕ → Lexeme → ℕ
+opened_by n Opens = n + 1
+opened_by n Closes = n - 1
+opened_by n (Word w) = n
+
+abbrev pub open_behind : ℕ → List Token → ℕ
+open_behind n [] = n
+open_behind n (t ∷ ts) = open_behind (opened_by n t.1) ts
+
+-- a parenthesis opens there, behind a beginning of a text of the grammar in which 1,024 are open
+pub record IsDeepPlace (ts : List Token) (at : ℕ) : Type 0 where
+  pub front : List Token
+  pub others : List Token
+  pub parts : ts ≡ front ++ (at, Opens) ∷ others
+  pub goes_on : CanGoOn front
+  pub full : open_behind 0 front ≡ 1024
 
 -- at the first token after which no text of the grammar continues, or at the end; the word is of what is wanted there first
 pub record IsFirstBadPlace (end : ℕ) (known : List Name) (ts : List Token) (at : ℕ) (what : CoreWanted) : Type 0 where

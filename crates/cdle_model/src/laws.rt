@@ -1,12 +1,12 @@
 //! The laws of the definitions. Each is the contract of a function with an empty body.
-ghost use Rattle.std.specs.Prelude.{◌≡◌, ◌⊎◌, ℕ, List, [], false, length};
+ghost use Rattle.std.specs.Prelude.{◌≡◌, ◌⊎◌, ◌++◌, ℕ, List, [], false, length};
 ghost use Rattle.std.specs.Str.{IsUtf8};
-ghost use Rattle.cdle_model.specs.Classes.{AreOver};
-ghost use Rattle.cdle_model.specs.CoreFaults.{BadText, Fault};
+ghost use Rattle.cdle_model.specs.Classes.{AreItems, AreOver};
+ghost use Rattle.cdle_model.specs.CoreFaults.{BadText, Fault, TooDeep};
 ghost use Rattle.cdle_model.specs.CoreNames.{Name, Names, with_items};
 ghost use Rattle.cdle_model.specs.CoreText.{Reads, Says, Stands};
 ghost use Rattle.cdle_model.specs.CoreTokens.{Token, tokens};
-ghost use Rattle.cdle_model.specs.CoreWants.{IsFirstBadPlace, IsFirstFault};
+ghost use Rattle.cdle_model.specs.CoreWants.{IsDeepPlace, IsFirstBadPlace, IsFirstFault};
 ghost use Rattle.cdle_model.specs.Forms.{Written};
 ghost use Rattle.cdle_model.specs.Trees.{Tree};
 ghost use Rattle.cdle_model.specs.declared.grammar.Class.{Class};
@@ -36,7 +36,19 @@ pub fn bad_text_is_first()
         → IsFirstFault bytes known (BadText at what) → IsFirstBadPlace (length bytes) known (tokens false 0 bytes) at what }
 {}
 
+/// A parenthesis is too many where 1,024 are open behind a beginning of a text of the grammar.
+pub fn too_deep_is_past_the_limit()
+    ensures { (bytes : List ℕ) (known : List Name) (at : ℕ) → IsFirstFault bytes known (TooDeep at) → IsDeepPlace (tokens false 0 bytes) at }
+{}
+
 /// What a text says behind items is a list of items, each closed and over the earlier ones, with each variable and name used in its class.
 pub fn read_items_are_items()
     ensures { (bytes : List ℕ) (es ws : List Written) → Says bytes (with_items es []) ws → AreOver es ws }
+{}
+
+/// Files one after the other: what a text says behind a list of items makes one list with them, and the names behind both lists are those
+/// behind the second where those behind the first are known.
+pub fn files_make_one_list()
+    ensures items { (bytes : List ℕ) (es ws : List Written) → AreItems es → Says bytes (with_items es []) ws → AreItems (es ++ ws) }
+    ensures names { (es ws : List Written) (known : List Name) → with_items (es ++ ws) known ≡ with_items ws (with_items es known) }
 {}
