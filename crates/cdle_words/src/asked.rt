@@ -1,6 +1,6 @@
 //! The command that the words ask for.
-ghost use Rattle.std.specs.Prelude.{◌≡◌, ◌<◌, IfOk, IsErrOf, None, Some, drop, false, length, map, option_and_then, string_bytes};
-ghost use Rattle.cdle_words.specs.Command.{command_in};
+ghost use Rattle.std.specs.Prelude.{◌≡◌, ◌<◌, ◌≤◌, IfOk, IsErrOf, None, Some, drop, false, length, map, option_and_then, string_bytes};
+ghost use Rattle.cdle_words.specs.Command.{budget_in, command_in};
 ghost use Rattle.cdle_words.specs.Words.{command_of, core_given, nothing_given, read_words};
 ghost use Rattle.cdle_words.specs.declared.asked.WordsFault.TheVariants.{NoMemory};
 
@@ -36,6 +36,7 @@ impl From<AllocError> for WordsFault {
 pub fn command_asked(alloc: Global, words: &Vec<String>) -> Result<Asked, WordsFault>
     ensures asked { IfOk result (λ asked. command_of (map string_bytes words.now.items) ≡ Some (command_in asked)) }
     ensures usage { IsErrOf result WordsFault.Usage → command_of (map string_bytes words.now.items) ≡ None }
+    ensures budget { IfOk result (λ asked. (0 < budget_in asked) × (budget_in asked ≤ 10000000)) }
 {
     match words.first() {
         Some(first) if first.as_str() == "core" => core_asked(alloc, words),
@@ -48,6 +49,7 @@ fn core_asked(alloc: Global, words: &Vec<String>) -> Result<Asked, WordsFault>
     requires { 0 < length words.now.items }
     ensures asked { IfOk result (λ asked. option_and_then core_given (read_words nothing_given false (drop 1 (map string_bytes words.now.items))) ≡ Some (command_in asked)) }
     ensures usage { IsErrOf result WordsFault.Usage → option_and_then core_given (read_words nothing_given false (drop 1 (map string_bytes words.now.items))) ≡ None }
+    ensures budget { IfOk result (λ asked. (0 < budget_in asked) × (budget_in asked ≤ 10000000)) }
 {
     let given = read_given(alloc, words)?;
     let Some(budget) = budget_of(given.budget) else {

@@ -1,5 +1,5 @@
 //! Numbers among the words. They are read here and not by the parser, which would take a sign too.
-ghost use Rattle.std.specs.Prelude.{◌≡◌, ◌<◌, ◌≤◌, Some, length, option_map, true};
+ghost use Rattle.std.specs.Prelude.{◌≡◌, ◌<◌, ◌≤◌, IfSome, Some, length, option_map, true};
 ghost use Rattle.std.specs.Char.{is_ascii_digit};
 ghost use Rattle.std.specs.List.{list_all};
 ghost use Rattle.std.specs.Str.Parse.{digits_value};
@@ -13,7 +13,8 @@ const MOST_BUDGET: u64 = 10_000_000;
 
 /// The budget, as it is written or by default.
 pub(crate) fn budget_of(word: Option<&str>) -> Option<u64>
-    ensures { result ≡ budget_of (option_map (λ s. s.now) word.entry) }
+    ensures is { result ≡ budget_of (option_map (λ s. s.now) word.entry) }
+    ensures within { IfSome result (λ budget. (0 < budget) × (budget ≤ 10000000)) }
 {
     match word {
         Some(word) => within(MOST_BUDGET, number_of(word, 8)),
@@ -23,7 +24,8 @@ pub(crate) fn budget_of(word: Option<&str>) -> Option<u64>
 
 /// The number, where it is from one to `most`.
 fn within(most: u64, number: Option<u64>) -> Option<u64>
-    ensures { result ≡ within most number }
+    ensures is { result ≡ within most number }
+    ensures within { IfSome result (λ n. (0 < n) × (n ≤ most)) }
 {
     match number {
         Some(n) if 0 < n && n <= most => Some(n),
