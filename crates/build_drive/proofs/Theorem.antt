@@ -11,7 +11,7 @@ use Rattle.cdle_model.specs.HeadForms.{deep}
 use Rattle.cdle_model.specs.declared.grammar.Count.TheVariants.{Bytes as OfBytes, Nesting, Items}
 use Rattle.cdle_model.proofs.ItemsChecked.{accepted-derived}
 use Rattle.build_drive.specs.Answers.{IsOutcome, IsStopped, names_of}
-use Rattle.build_drive.specs.Calls.{AreRead, AreThere, IsCall}
+use Rattle.build_drive.specs.Calls.{AreAccepted, AreRead, AreRefused, AreThere, IsCall}
 use Rattle.build_drive.specs.Checks.{HaveNone, IsDecided, IsSpot, IsVerdict, Tells}
 use Rattle.build_drive.specs.Sights.{IsThere, Saw, Sight, Visit, absent, contents, every, last, too_long, unread}
 use Rattle.build_drive.specs.declared.done.Done.{Done}
@@ -61,7 +61,7 @@ accepted-told all (ends i deep) modules items h = absurd h
 accepted-told all v modules items h = absurd h
 
 pub accepted : (n : ℕ) (v : Visit) (files : List Bytes) (d : Done) (modules items : ℕ) → IsCall n v files d → d.outcome ≡ outcome.Ok modules items
-    → (all : List Written) × AreRead v v.given [] files all × AreDerived all × (items ≡ length all)
+    → AreAccepted v files items
 accepted n v files d modules items call e =
     let r = checked n v files d (outcome.Ok modules items) tt call e in
     let t = accepted-told r.0 (check_items r.2.0 r.0) modules items r.2.1 in (r.0, r.1, t.0, t.1)
@@ -73,7 +73,7 @@ refused-told all (ends i deep) spot why h = absurd h
 refused-told all v spot why h = absurd h
 
 pub refused : (n : ℕ) (v : Visit) (files : List Bytes) (d : Done) (spot : Spot) (why : Reason) → IsCall n v files d → d.outcome ≡ outcome.Refused spot why
-    → (all : List Written) × AreRead v v.given [] files all × (i : ℕ) × (path : List ℕ) × IsSpot all i path spot × HaveNone all i
+    → AreRefused v files spot
 refused n v files d spot why call e =
     let r = checked n v files d (outcome.Refused spot why) tt call e in
     let t = refused-told r.0 (check_items r.2.0 r.0) spot why r.2.1 in (r.0, r.1, t.0, t.1, t.2, t.3)

@@ -2,14 +2,16 @@
 use Rattle.std.specs.Prelude.{◌≡◌, ◌⊎◌, ◌+◌, ◌≤◌, ◌++◌, ℕ, List, [], ◌∷◌, Option, Some, IfSome, length}
 use Rattle.cdle_folder.specs.Files.{Bytes, Files, Reads, with_read}
 use Rattle.cdle_model.specs.CoreText.{Says}
+use Rattle.cdle_model.specs.Derivation.{AreDerived}
 use Rattle.cdle_model.specs.Forms.{Written}
 use Rattle.build_drive.specs.Sights.{Visit, Sight, Saw, most_bytes, text_seen}
-use Rattle.build_drive.specs.Checks.{IsVerdict}
+use Rattle.build_drive.specs.Checks.{HaveNone, IsSpot, IsVerdict}
 use Rattle.build_drive.specs.Answers.{IsOutcome, names_of, most_items}
 use Rattle.build_drive.specs.Reports.{report_of}
 use Rattle.build_drive.specs.declared.done.Done.{Done}
 use Rattle.build_drive.specs.declared.outcome.Outcome.{Outcome}
 use Rattle.build_drive.specs.declared.outcome.Outcome.TheVariants as outcome
+use Rattle.build_drive.specs.declared.outcome.Spot.{Spot}
 
 -- the report is that of the outcome, over the text of the file at which the call ended
 abbrev pub IsReported : Bytes → Done → Type 0
@@ -28,6 +30,14 @@ abbrev pub AreRead : Visit → Option Reads → List Written → List Bytes → 
 AreRead v given es [] all = (v.given_after ≡ given) × (all ≡ es)
 AreRead v given es (file ∷ files) all = (bytes : Bytes) × (ws : List Written) × IfSome v.files (λ f. f file ≡ Some bytes) × Says bytes (names_of es) ws
     × AreRead v (with_read file bytes given) (es ++ ws) files all
+
+-- accepted: every file was read to its end, and the list of all items, so many, has a derivation
+abbrev pub AreAccepted : Visit → List Bytes → ℕ → Type 0
+AreAccepted v files items = (all : List Written) × AreRead v v.given [] files all × AreDerived all × (items ≡ length all)
+
+-- refused there: every file was read to its end, and the items up to the one that is named have no derivation
+abbrev pub AreRefused : Visit → List Bytes → Spot → Type 0
+AreRefused v files place = (all : List Written) × AreRead v v.given [] files all × (i : ℕ) × (path : List ℕ) × IsSpot all i path place × HaveNone all i
 
 -- these files are in the folder, within the limits, and say in their order all the items behind es
 abbrev pub AreThere : Files → List Written → List Bytes → List Written → Type 0

@@ -3,11 +3,10 @@ ghost use Rattle.std.specs.Prelude.{◌≡◌, ◌≤◌, ◌⊎◌, [], ℕ, If
 ghost use Rattle.cdle_folder.specs.Causes.{Quiet};
 ghost use Rattle.cdle_folder.specs.Files.{Files};
 ghost use Rattle.cdle_model.specs.Check.{accepts, check_items};
-ghost use Rattle.cdle_model.specs.Derivation.{AreDerived};
 ghost use Rattle.cdle_model.specs.Forms.{Written};
 ghost use Rattle.build_drive.specs.Answers.{IsOutcome};
-ghost use Rattle.build_drive.specs.Calls.{AreRead, AreThere, IsCall, IsWork};
-ghost use Rattle.build_drive.specs.Checks.{HaveNone, IsDecided, IsSpot, IsVerdict};
+ghost use Rattle.build_drive.specs.Calls.{AreAccepted, AreRefused, AreThere, IsCall, IsWork};
+ghost use Rattle.build_drive.specs.Checks.{IsDecided, IsVerdict};
 ghost use Rattle.build_drive.specs.Sights.{IsThere, Sight};
 ghost use Rattle.build_drive.specs.Works.{EndsEarly};
 ghost use Rattle.build_drive.specs.declared.outcome.Outcome.{Outcome as OutcomeOf};
@@ -17,7 +16,6 @@ ghost use Rattle.build_drive.specs.declared.outcome.Outcome.TheVariants.{NoMemor
 
 use crate::check::checked;
 use crate::done::{Done, Stop};
-use crate::outcome::Outcome;
 use crate::reading::read_files;
 use cdle_folder::Folder;
 use std::alloc::Global;
@@ -44,7 +42,7 @@ pub fn core_command<F: Folder>(
     }) (map string_bytes files.now.items) result }
 
     // Accepted: each file in its order is read to its end, and the list of all items has a derivation.
-    ensures accepted { (modules items : ℕ) → result.outcome ≡ Accepted modules items → (all : List Written) × AreRead (record {
+    ensures accepted { (modules items : ℕ) → result.outcome ≡ Accepted modules items → AreAccepted (record {
       files = F.files folder.old;
       given = F.given folder.old;
       given_after = F.given folder.new;
@@ -52,10 +50,10 @@ pub fn core_command<F: Folder>(
       read_faults_after = F.read_faults folder.new;
       absences = F.absences folder.old;
       absences_after = F.absences folder.new;
-    }) (F.given folder.old) [] (map string_bytes files.now.items) all × AreDerived all × (items ≡ length all) }
+    }) (map string_bytes files.now.items) items }
 
     // Refused: likewise each file is read, and the items up to the one that is named have no derivation.
-    ensures refused { (place : SpotOf) (why : ReasonOf) → result.outcome ≡ Rejected place why → (all : List Written) × AreRead (record {
+    ensures refused { (place : SpotOf) (why : ReasonOf) → result.outcome ≡ Rejected place why → AreRefused (record {
       files = F.files folder.old;
       given = F.given folder.old;
       given_after = F.given folder.new;
@@ -63,7 +61,7 @@ pub fn core_command<F: Folder>(
       read_faults_after = F.read_faults folder.new;
       absences = F.absences folder.old;
       absences_after = F.absences folder.new;
-    }) (F.given folder.old) [] (map string_bytes files.now.items) all × (i : ℕ) × (path : List ℕ) × IsSpot all i path place × HaveNone all i }
+    }) (map string_bytes files.now.items) place }
 
     // No file is written.
     ensures files { F.files folder.new ≡ F.files folder.old }
@@ -81,10 +79,7 @@ pub fn core_command<F: Folder>(
     match work(alloc, files, budget, folder) {
         Ok(done) => done,
         Err(Stop::Ended(done)) => done,
-        Err(Stop::NoMemory) => Done {
-            outcome: Outcome::NoMemory,
-            report: Vec::new(alloc),
-        },
+        Err(Stop::NoMemory) => Done::no_memory(alloc),
     }
 }
 

@@ -1,15 +1,16 @@
 //! What a command comes to, with its report.
-ghost use Rattle.std.specs.Prelude.{◌≡◌, IfOk};
+ghost use Rattle.std.specs.Prelude.{◌≡◌, [], IfOk};
 ghost use Rattle.build_drive.specs.Reports.{IsShown};
 ghost use Rattle.build_drive.specs.Calls.{IsReported};
 ghost use Rattle.build_drive.specs.declared.done.Stop.TheVariants.{NoMemory as Wanted};
+ghost use Rattle.build_drive.specs.declared.outcome.Outcome.TheVariants.{NoMemory as OutOfMemory};
 
 use crate::outcome::Outcome;
 use crate::reports::report;
 use cdle_model::NoMemory;
 use std::alloc::{AllocError, AllocFailed, Global};
 
-/// The outcome of a command, and its report. That memory is wanting has no report here: the caller says so without any.
+/// The outcome of a command, and its report. That memory was wanted has no report here: the caller says so without any.
 #[derive(Drop)]
 pub struct Done {
     pub outcome: Outcome,
@@ -18,13 +19,24 @@ pub struct Done {
 
 impl Done {
     /// This outcome, reported over the text of the file at which the call ended.
-    pub(crate) fn new(alloc: Global, outcome: Outcome, text: &[u8]) -> Result<Done, NoMemory>
+    pub fn new(alloc: Global, outcome: Outcome, text: &[u8]) -> Result<Done, NoMemory>
         requires { IsShown text.now outcome }
         ensures outcome { IfOk result (λ done. done.outcome ≡ outcome) }
         ensures report { IfOk result (IsReported text.now) }
     {
         let report = report(alloc, &outcome, text)?.into_bytes();
         Ok(Done { outcome, report })
+    }
+
+    /// That memory was wanted. Saying so takes none.
+    pub fn no_memory(alloc: Global) -> Done
+        ensures outcome { result.outcome ≡ OutOfMemory }
+        ensures report { result.report.items ≡ [] }
+    {
+        Done {
+            outcome: Outcome::NoMemory,
+            report: Vec::new(alloc),
+        }
     }
 }
 

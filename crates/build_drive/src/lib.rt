@@ -16,7 +16,6 @@ mod reports;
 pub use command::core_command;
 pub use done::Done;
 pub use outcome::{Badness, Outcome, Reason, Spot};
-pub use reports::report;
 
 #[cfg(test)]
 mod tests;

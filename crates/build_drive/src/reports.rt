@@ -12,7 +12,7 @@ use core_tree::Why;
 use std::alloc::Global;
 
 /// The report of an outcome, over the text of the file at which the call ended. That memory is wanting is said without any, so not here.
-pub fn report(alloc: Global, outcome: &Outcome, text: &[u8]) -> Result<String, NoMemory>
+pub(crate) fn report(alloc: Global, outcome: &Outcome, text: &[u8]) -> Result<String, NoMemory>
     requires { IsShown text.now outcome.now }
     ensures { IfOk result (λ report. string_bytes report ≡ report_of text.now outcome.now) }
 {
