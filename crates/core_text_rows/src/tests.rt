@@ -46,11 +46,21 @@ fn each_form_whole(rt: HostRuntime) -> Result<(), Fail> {
     let alloc = rt.alloc();
     for row in &ROWS {
         let mut text = beginning(alloc, row, row.parts.len())?;
-        assert_eq!(rt; counted(read_behind(alloc, KNOWN, &text)), bad(text.len(), CoreWanted::Close), "{}", row.word);
+        assert_eq!(rt;
+            counted(read_behind(alloc, KNOWN, &text)),
+            bad(text.len(), CoreWanted::Close),
+            "{}",
+            row.word
+        );
         let (_, behind) = around(row.class);
         text.extend_from_slice(b")")?;
         text.extend_from_slice(behind.as_bytes())?;
-        assert_eq!(rt; counted(read_behind(alloc, KNOWN, &text)), Ok(1), "{}", row.word);
+        assert_eq!(rt;
+            counted(read_behind(alloc, KNOWN, &text)),
+            Ok(1),
+            "{}",
+            row.word
+        );
     }
     Ok(())
 }
@@ -61,7 +71,13 @@ fn each_part_cut_off(rt: HostRuntime) -> Result<(), Fail> {
     for row in &ROWS {
         for (part, want) in row.parts.iter().enumerate() {
             let text = beginning(alloc, row, part)?;
-            assert_eq!(rt; counted(read_behind(alloc, KNOWN, &text)), bad(text.len(), wanted(*want)), "{} {}", row.word, part);
+            assert_eq!(rt;
+                counted(read_behind(alloc, KNOWN, &text)),
+                bad(text.len(), wanted(*want)),
+                "{} {}",
+                row.word,
+                part
+            );
         }
     }
     Ok(())
@@ -76,9 +92,21 @@ fn names_in_the_wrong_place(rt: HostRuntime) -> Result<(), Fail> {
             let at = ((before.len() + 1) % 67_108_865) as u32;
             if let Some(name) = other(*want) {
                 let text = with_word(alloc, row, part, name)?;
-                assert_eq!(rt; counted(read_behind(alloc, KNOWN, &text)), Err(CoreTextFault::WrongClass { at }), "{} {}", row.word, part);
+                assert_eq!(rt;
+                    counted(read_behind(alloc, KNOWN, &text)),
+                    Err(CoreTextFault::WrongClass { at }),
+                    "{} {}",
+                    row.word,
+                    part
+                );
                 let text = with_word(alloc, row, part, "unknown")?;
-                assert_eq!(rt; counted(read_behind(alloc, KNOWN, &text)), Err(CoreTextFault::Unbound { at }), "{} {}", row.word, part);
+                assert_eq!(rt;
+                    counted(read_behind(alloc, KNOWN, &text)),
+                    Err(CoreTextFault::Unbound { at }),
+                    "{} {}",
+                    row.word,
+                    part
+                );
             }
             // `*` is a kind alone, and no name is one
             let word = if matches!(*want, Want::Kind | Want::GuideKind) {
@@ -87,7 +115,13 @@ fn names_in_the_wrong_place(rt: HostRuntime) -> Result<(), Fail> {
                 "*"
             };
             let text = with_word(alloc, row, part, word)?;
-            assert_eq!(rt; counted(read_behind(alloc, KNOWN, &text)), bad(before.len() + 1, wanted(*want)), "{} {}", row.word, part);
+            assert_eq!(rt;
+                counted(read_behind(alloc, KNOWN, &text)),
+                bad(before.len() + 1, wanted(*want)),
+                "{} {}",
+                row.word,
+                part
+            );
         }
     }
     Ok(())
@@ -98,14 +132,32 @@ fn told_rows(rt: HostRuntime) {
     let alloc = rt.alloc();
     let table: [(&[u8], Result<usize, CoreTextFault>); 20] = [
         (b"core 1", Ok(0)),
-        (b"core 1\n(def id (allt X * (pi x X X)) (xlam X * (lam x X x)))", Ok(1)),
-        (b"core 1 ; comment )\n(type T * (allt X * X))(def i (pi x T T) (lam x T x))", Ok(2)),
+        (
+            b"core 1\n(def id (allt X * (pi x X X)) (xlam X * (lam x X x)))",
+            Ok(1),
+        ),
+        (
+            b"core 1 ; comment )\n(type T * (allt X * X))(def i (pi x T T) (lam x T x))",
+            Ok(2),
+        ),
         (b"core 1 ; comment\r(type T * (allt X * X))\n", Ok(0)),
         (b"core 1(type core * (eq (fn def def) (fn lam lam)))", Ok(1)),
-        (b"core 1\n(def id (allt X * (pi x X X)) (lam X x X))", Err(CoreTextFault::Unbound { at: 44 })),
-        (b"core 1\n(def id (allt X * (pi x X X)) (lam x X x))", Err(CoreTextFault::Unbound { at: 44 })),
-        (b"core 1\n(def e (eq (fn x x) (fn x", bad(32, CoreWanted::Pure)),
-        (b"core 1\n(def e (eq (fn x x) (fn x ; and no more", bad(46, CoreWanted::Pure)),
+        (
+            b"core 1\n(def id (allt X * (pi x X X)) (lam X x X))",
+            Err(CoreTextFault::Unbound { at: 44 }),
+        ),
+        (
+            b"core 1\n(def id (allt X * (pi x X X)) (lam x X x))",
+            Err(CoreTextFault::Unbound { at: 44 }),
+        ),
+        (
+            b"core 1\n(def e (eq (fn x x) (fn x",
+            bad(32, CoreWanted::Pure),
+        ),
+        (
+            b"core 1\n(def e (eq (fn x x) (fn x ; and no more",
+            bad(46, CoreWanted::Pure),
+        ),
         (b"cor", bad(0, CoreWanted::Core)),
         (b"", bad(0, CoreWanted::Core)),
         (b"core", bad(4, CoreWanted::One)),
@@ -116,7 +168,10 @@ fn told_rows(rt: HostRuntime) {
         (b"core 1 (lam x", bad(8, CoreWanted::Item)),
         (b"core 1 (def * ", bad(12, CoreWanted::Name)),
         (b"core 1 (type a (kpi (", bad(20, CoreWanted::Name)),
-        (b"core 1\n(type X * (allt Y * Y))\n(def a X X)", Err(CoreTextFault::WrongClass { at: 40 })),
+        (
+            b"core 1\n(type X * (allt Y * Y))\n(def a X X)",
+            Err(CoreTextFault::WrongClass { at: 40 }),
+        ),
     ];
     for (text, told) in table {
         assert_eq!(rt; answer(alloc, text), told);
@@ -129,11 +184,17 @@ fn files_in_all_their_orders(rt: HostRuntime) {
     let p = b"core 1\n(type T * (allt X * (pi x X X)))";
     let q = b"core 1\n(def i T (xlam X * (lam x X x)))";
     assert_eq!(rt; counted(read_behind(alloc, p, q)), Ok(1));
-    assert_eq!(rt; counted(read_behind(alloc, q, p)), Err(CoreTextFault::Unbound { at: 14 }));
+    assert_eq!(rt;
+        counted(read_behind(alloc, q, p)),
+        Err(CoreTextFault::Unbound { at: 14 })
+    );
     assert_eq!(rt; counted(read_behind(alloc, p, p)), Ok(1));
     assert_eq!(rt; counted(read_third(alloc, p, p, q)), Ok(1));
     assert_eq!(rt; counted(read_third(alloc, p, q, p)), Ok(1));
-    assert_eq!(rt; counted(read_third(alloc, q, p, p)), Err(CoreTextFault::Unbound { at: 14 }));
+    assert_eq!(rt;
+        counted(read_third(alloc, q, p, p)),
+        Err(CoreTextFault::Unbound { at: 14 })
+    );
 }
 
 /// What the body of the last item is, if that is a variable or a name.
@@ -176,7 +237,10 @@ fn what_a_name_stands_for(rt: HostRuntime) {
     assert_eq!(rt; body(read_behind(alloc, two, earlier)), Some((false, 1)));
     assert_eq!(rt; body(read_behind(alloc, two, own)), Some((false, 1)));
     assert_eq!(rt; body(read_behind(alloc, two, last)), Some((false, 2)));
-    assert_eq!(rt; body(read_third(alloc, two, two, earlier)), Some((false, 3)));
+    assert_eq!(rt;
+        body(read_third(alloc, two, two, earlier)),
+        Some((false, 3))
+    );
     assert_eq!(rt; answer(alloc, own), Err(CoreTextFault::Unbound { at: 37 }));
 }
 
@@ -195,7 +259,8 @@ fn place(fault: CoreTextFault) -> Option<u32> {
 #[test]
 fn each_beginning_of_an_item(rt: HostRuntime) {
     let alloc = rt.alloc();
-    let text = b"core 1\n(def a (allt X * (iota w (pi x X X) (eq (fn y y) (fn y y)))) (xlam X * (pair (lam x X x) (beta (fn y y) (fn y (fn z z))) w (eq (fn y y) (fn y y)))))";
+    let text =
+        b"core 1\n(def a (allt X * (iota w (pi x X X) (eq (fn y y) (fn y y)))) (xlam X * (pair (lam x X x) (beta (fn y y) (fn y (fn z z))) w (eq (fn y y) (fn y y)))))";
     let mut word = 0usize;
     for (end, byte) in text.iter().enumerate() {
         let fault = match answer(alloc, &text[..end]) {
