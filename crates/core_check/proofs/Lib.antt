@@ -1,5 +1,4 @@
-pub mod Forms
-pub mod Contexts
-pub mod Items
-pub mod Lists
-pub mod Standing
+pub mod Passing
+pub mod Results
+pub mod Splits
+pub mod Asked

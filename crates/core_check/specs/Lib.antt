@@ -1,3 +1,5 @@
+pub mod Reasons
+pub mod Faults
 pub mod Context
-pub mod Items
-pub mod Answer
+pub mod Questions
+pub mod Formers
