@@ -1,5 +1,5 @@
 -- What the answers of comparison and of head reduction say of a question.
-use Rattle.std.proofs.Common.{◌≡◌, ℕ, ◌+◌, ◌≤◌, true, false, List, [], ◌∷◌, Result, Ok, Err, refl, sym, ap, ◌∙◌, subst, arith}
+use Rattle.std.proofs.Common.{◌≡◌, ℕ, Bool, true, false, List, [], ◌∷◌, Result, Ok, Err, refl, sym, ap, ◌∙◌, subst, arith}
 use Rattle.cdle_model.specs.declared.grammar.Sort.{Sort}
 use Rattle.cdle_model.specs.Trees.{Tree}
 use Rattle.cdle_model.specs.Forms.{Written}
@@ -18,11 +18,16 @@ use Rattle.core_reduce.specs.declared.reduce.Stop.TheVariants as s
 use Rattle.core_reduce.specs.Heads.{IsHeadForm, MeetsHead}
 use Rattle.core_compare.specs.Answers.{MeetsCompare}
 use Rattle.core_compare.specs.declared.comparison.Answer.TheVariants as c
-use Rattle.core_check.specs.Faults.{IsStopped}
+use Rattle.core_check.specs.Faults.{IsRefusal, IsStopped}
 use Rattle.core_reduce.specs.Values.{StandsFor}
-use Rattle.core_check.specs.Questions.{Keeps, MeetsHeadForm, MeetsSame}
+use Rattle.core_reduce.specs.declared.value.Former.{Former}
+use Rattle.core_reduce.specs.Sides.{Sided}
+use Rattle.core_reduce.specs.Values.{former_class, former_tree, value_tree}
+use Rattle.core_check.specs.Formers.{Binds, IsOther, IsSplit, binder_of, other_form}
+use Rattle.core_check.proofs.Splits.{bound, not_bound, other_value, same_former}
+use Rattle.core_check.specs.Questions.{FindsParts, Keeps, Leads, Meets, MeetsHeadForm, MeetsSame}
 use Rattle.core_check.specs.declared.fault.Fault.{Fault}
-use Rattle.core_check.proofs.Results.{leads_head, head_spent, head_deep, leads_same, same_spent, same_deep, apart_refuses, no_memory}
+use Rattle.core_check.proofs.Results.{leads_head, refuses, head_spent, head_deep, leads_same, same_spent, same_deep, apart_refuses, no_memory}
 
 -- a head form keeps the classes of variables and names
 pub head_keeps : (es : List Written) → AreItems es → HaveErasures es → (n : ℕ) (a b : Tree) (left : ℕ) → head_form (bodies (signature es)) n a ≡ answered (value b) left → Keeps (item_sorts es) a b
@@ -46,3 +51,35 @@ same_meets es n p a b g = λ w q. leads_same es n p w a b q g.units g.rest g.is
 
 pub apart_meets : (es : List Written) (n : ℕ) (p : List ℕ) (a b : Tree) (v w : Value) → MeetsCompare (bodies (signature es)) a b n (Ok (c.Apart v w)) → MeetsSame es n p a b (Ok false)
 apart_meets es n p a b v w g = λ r q e. apart_refuses es n p r a b g.left g.right q g.answers.units g.answers.rest g.answers.is e
+
+-- a comparison with a side that was made of a tree
+module _ (es : List Written) (n : ℕ) (p : List ℕ) (w : Reason) (a b : Tree) (s : Sided) (e : s.tree ≡ a) where
+  pub has_same : (x : Bool) → x ≡ true → MeetsSame es n p s.tree b (Ok x) → (q : Questions) → Leads es n (ask_same p w a b q) q
+  has_same x i h q = subst (λ z. Leads es n (ask_same p w z b q) q) e ((subst (λ z. MeetsSame es n p s.tree b (Ok z)) i h) w q)
+
+  pub has_fault : (f : Fault) → MeetsSame es n p s.tree b (Err f) → (q : Questions) → Meets es n (ask_same p w a b q) (Err f)
+  has_fault f h q = subst (λ z. Meets es n (ask_same p w z b q) (Err f)) e (h w q)
+
+  pub has_not : (x : Bool) → x ≡ false → MeetsSame es n p s.tree b (Ok x) → (f : Fault) → IsRefusal p w f → (q : Questions) → Meets es n (ask_same p w a b q) (Err f)
+  has_not x i h f g q = subst (λ z. Meets es n (ask_same p w z b q) (Err f)) e ((subst (λ z. MeetsSame es n p s.tree b (Ok z)) i h) w q f g)
+
+-- the two parts of a form that was looked for
+module _ (es : List Written) (n i : ℕ) (x : Former) (c : SideClass) (a : Tree) (v : Value) (b : Binds x) (e : former_class x ≡ c) where
+  abbrev asks : (Tree → Tree → Questions) → Questions
+  asks k = ask_head (i ∷ []) a (λ t. binder_parts (binder_of x) t k (refuse (i ∷ []) (other_form x t)))
+
+  form_is : (t : Tree) (p : Sided × Sided) → StandsFor c v t → IsSplit x v (Ok p) → t ≡ former_tree x (p.0 ∷ p.1 ∷ [])
+  form_is t p s d = sym s.1 ∙ subst (λ z. value_tree z v ≡ former_tree x (p.0 ∷ p.1 ∷ [])) e d.1
+
+  pub parts_found : (p : Sided × Sided) → MeetsHeadForm es n (i ∷ []) c a (Ok v) → IsSplit x v (Ok p) → FindsParts es n asks (Ok p)
+  parts_found p (t, s, l, k) d = λ f r h.
+      l _ r (subst (λ z. Meets es n z r) (sym (ap (λ z. binder_parts (binder_of x) z f (refuse (i ∷ []) (other_form x t))) (form_is t p s d ∙ same_former x p.0 p.1 b) ∙ bound (binder_of x) p.0.tree p.1.tree f (refuse (i ∷ []) (other_form x t)))) h)
+
+  pub parts_fit : (p : Sided × Sided) → MeetsHeadForm es n (i ∷ []) c a (Ok v) → IsSplit x v (Ok p) → (vs : List Sort) (d : TreeClass) → IsErased d → Fits (within vs (item_sorts es)) d a → Fits (within vs (item_sorts es)) d (former_tree x (p.0 ∷ p.1 ∷ []))
+  parts_fit p (t, s, l, k) d = λ vs g j h. subst (Fits (within vs (item_sorts es)) g) (form_is t p s d) (k vs g j h)
+
+  pub other_refuses : (f : Fault) → MeetsHeadForm es n (i ∷ []) c a (Ok v) → IsOther x v → IsRefusal (i ∷ []) (other_form x (value_tree c v)) f → FindsParts es n asks (Err f)
+  other_refuses f (t, s, l, k) d h = λ g.
+      l _ (Err f) (subst (λ z. Meets es n (binder_parts (binder_of x) z g (refuse (i ∷ []) (other_form x z))) (Err f)) s.1
+      (subst (λ z. Meets es n z (Err f)) (sym (not_bound (binder_of x) (value_tree c v) g (refuse (i ∷ []) (other_form x (value_tree c v))) (other_value x c v b e s.0 d)))
+      (refuses es n (i ∷ []) (other_form x (value_tree c v)) f h)))

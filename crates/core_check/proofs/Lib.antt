@@ -2,3 +2,5 @@ pub mod Passing
 pub mod Results
 pub mod Splits
 pub mod Asked
+pub mod Found
+pub mod Looked

@@ -1,5 +1,5 @@
 -- Head forms that are of a form that is looked for, and those that are not.
-use Rattle.std.proofs.Common.{◌≡◌, ℕ, suc, List, [], ◌∷◌, ◌++◌, length, refl, sym, ap, ◌∙◌, arith}
+use Rattle.std.proofs.Common.{◌≡◌, ℕ, suc, List, [], ◌∷◌, ◌++◌, length, None, refl, sym, ap, ◌∙◌, arith}
 use Rattle.std.proofs.lemmas.List.{length-append}
 use Rattle.cdle_model.specs.Trees.{Function, of_pure, of_term, of_type, Binary, eq_of, Binder, pi_of, all_of, allt_of, iota_of, kpi_of, kpit_of, Binder-discrete, Tree, var, name, leaf, unary, fun, apply, binary, bind}
 use Rattle.cdle_model.specs.Forms.{eq}
@@ -10,9 +10,12 @@ use Rattle.core_reduce.specs.declared.value.Former.{Former}
 use Rattle.core_reduce.specs.declared.value.Former.TheVariants as f
 use Rattle.core_reduce.specs.declared.value.Value.{Value}
 use Rattle.core_reduce.specs.declared.value.Value.TheVariants as v
-use Rattle.core_reduce.specs.Sides.{Sided}
+use Rattle.core_reduce.specs.Sides.{IsKept, Sided}
 use Rattle.core_reduce.specs.Values.{applied_to, classes, former_class, former_parts, former_tree, IsValueOf, value_tree}
-use Rattle.core_check.specs.Formers.{binder_of, Binds, IsOther}
+use Rattle.core_check.specs.Formers.{binder_of, Binds, IsOther, other_form}
+use Rattle.core_tree.specs.declared.faults.Kept.{Kept}
+use Rattle.core_tree.specs.declared.faults.Why.TheVariants as w
+use Rattle.core_check.specs.Reasons.{IsWhy}
 
 -- the tree is not of this binder, and no function of pure terms
 abbrev pub NotBound : Binder → Tree → Type 0
@@ -212,7 +215,35 @@ length_classes [] = refl
 length_classes (p ∷ ps) = ap suc (length_classes ps)
 
 -- two parts that were taken from the end of a list
-pub popped : (ps qs rs : List Sided) (l r : Sided) → length (classes ps) ≡ 2 → ps ≡ qs ++ r ∷ [] → qs ≡ rs ++ l ∷ [] → ps ≡ l ∷ r ∷ []
+popped : (ps qs rs : List Sided) (l r : Sided) → length ps ≡ 2 → ps ≡ qs ++ r ∷ [] → qs ≡ rs ++ l ∷ [] → ps ≡ l ∷ r ∷ []
 popped ps qs [] l r e f g = f ∙ ap (λ z. z ++ r ∷ []) g
 popped ps qs (x ∷ rs) l r e f g =
-    let a = length_classes ps in let b = ap length f in let c = ap length g in let d = length-append qs (r ∷ []) in let h = length-append (x ∷ rs) (l ∷ []) in absurd (omega arith)
+    let b = ap length f in let c = ap length g in let d = length-append qs (r ∷ []) in let h = length-append (x ∷ rs) (l ∷ []) in absurd (omega arith)
+
+module _ (x : Former) (ps : List Sided) (e : classes ps ≡ former_parts x) (two : length (former_parts x) ≡ 2) where
+  are_two : length ps ≡ 2
+  are_two = sym (length_classes ps) ∙ ap length e ∙ two
+
+  pub some_part : ps ≡ [] → ⊥
+  some_part f = let a = are_two in let b = ap length f in omega arith
+
+  pub more_parts : (qs : List Sided) (r : Sided) → ps ≡ qs ++ r ∷ [] → qs ≡ [] → ⊥
+  more_parts qs r f g = let a = are_two in let b = ap length f in let c = ap length g in let d = length-append qs (r ∷ []) in omega arith
+
+  pub split_is : (qs rs : List Sided) (l r : Sided) → ps ≡ qs ++ r ∷ [] → qs ≡ rs ++ l ∷ [] → (classes (l ∷ r ∷ []) ≡ former_parts x) × (former_tree x ps ≡ former_tree x (l ∷ r ∷ []))
+  split_is qs rs l r f g = let h = popped ps qs rs l r are_two f g in (ap classes (sym h) ∙ e, ap (former_tree x) h)
+
+-- why a head form is refused that is no product of kinds
+pub kind_why : (x : Former) (a : Tree) (k : Kept Tree) → Binds x → former_class x ≡ OfKind → IsKept a k → IsWhy (other_form x a) (w.WrongKind k None)
+kind_why f.Kpi a k b e h = h
+kind_why f.Kpit a k b e h = h
+kind_why f.Pi a k b e h = absurd cc
+kind_why f.All a k b e h = absurd cc
+kind_why f.Allt a k b e h = absurd cc
+kind_why f.Iota a k b e h = absurd cc
+kind_why f.Tlam a k b e h = absurd b
+kind_why f.Xtlam a k b e h = absurd b
+kind_why f.At a k b e h = absurd b
+kind_why f.On a k b e h = absurd b
+kind_why f.Eq a k b e h = absurd b
+kind_why f.Star a k b e h = absurd b

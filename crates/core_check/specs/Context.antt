@@ -17,3 +17,8 @@ entries (Type' kind p outer) = type_of kind.now ∷ entries outer
 -- the sorts of its variables
 abbrev pub sorts : Context → List Sort
 sorts c = entry_sorts (entries c)
+
+-- what is known of a variable, as it stands under so many more binders
+abbrev pub lifted : ℕ → Entry → Entry
+lifted by (term_of a) = term_of (shift 0 by a)
+lifted by (type_of k) = type_of (shift 0 by k)

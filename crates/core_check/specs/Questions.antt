@@ -2,7 +2,7 @@
 use Rattle.std.specs.Prelude.{◌≡◌, ℕ, ◌+◌, Bool, true, false, List, [], ◌∷◌, Result, Ok, Err}
 use Rattle.cdle_model.specs.declared.grammar.Sort.{Sort}
 use Rattle.cdle_model.specs.Trees.{Tree}
-use Rattle.cdle_model.specs.Forms.{Written}
+use Rattle.cdle_model.specs.Forms.{star, Written}
 use Rattle.cdle_model.specs.Classes.{TreeClass, within, Fits, item_sorts}
 use Rattle.cdle_model.specs.HeadForms.{deep}
 use Rattle.cdle_model.specs.Derivation.{bodies, signature}
@@ -35,7 +35,7 @@ abbrev pub Leads : List Written → ℕ → Questions → Questions → Type 0
 Leads es n q q' = (r : Result Tree Fault) → Meets es n q' r → Meets es n q r
 
 -- what c asks before it goes on passes, or ends it
-abbrev pub Passes : List Written → ℕ → (Questions → Questions) → Result (Unit {0}) Fault → Type 0
+abbrev pub Passes : {A : Type 0} → List Written → ℕ → (Questions → Questions) → Result A Fault → Type 0
 Passes es n c (Ok _) = (q : Questions) → Leads es n (c q) q
 Passes es n c (Err e) = (q : Questions) → Meets es n (c q) (Err e)
 
@@ -48,6 +48,11 @@ Finds es n c (Err e) = (k : Tree → Questions) → Meets es n (c k) (Err e)
 abbrev pub FindsParts : List Written → ℕ → ((Tree → Tree → Questions) → Questions) → Result (Sided × Sided) Fault → Type 0
 FindsParts es n c (Ok p) = (k : Tree → Tree → Questions) → Leads es n (c k) (k p.0.tree p.1.tree)
 FindsParts es n c (Err e) = (k : Tree → Tree → Questions) → Meets es n (c k) (Err e)
+
+-- a kind: what is found is `*`
+abbrev pub MeetsKind : List Written → ℕ → Questions → Result (Unit {0}) Fault → Type 0
+MeetsKind es n q (Ok _) = Meets es n q (Ok star)
+MeetsKind es n q (Err e) = Meets es n q (Err e)
 
 -- the two are the same, or apart, for which there may be any reason, or the question ends early
 abbrev pub MeetsSame : List Written → ℕ → List ℕ → Tree → Tree → Result Bool Fault → Type 0

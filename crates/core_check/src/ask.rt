@@ -1,14 +1,16 @@
 //! The questions of the rules: comparisons and head forms, each with a budget of its own.
-ghost use Rattle.std.specs.Prelude.{◌≡◌, ◌∷◌, [], IfOk, List, Some, length};
+ghost use Rattle.std.specs.Prelude.{◌≡◌, ◌++◌, ◌∷◌, [], IfOk, List, Some, length};
 ghost use Rattle.cdle_model.specs.declared.grammar.Sort.{Sort};
 ghost use Rattle.cdle_model.specs.Check.{ask_head, ask_same, binder_parts, mismatch, refuse, wrong_kind};
 ghost use Rattle.cdle_model.specs.Classes.{Fits, guide_kinds, guides, item_sorts, within};
+ghost use Rattle.cdle_model.specs.Trees.{Tree};
 ghost use Rattle.core_compare.specs.Answers.{ArePlaced};
-ghost use Rattle.core_reduce.specs.Sides.{IsPlaced, class_trees};
+ghost use Rattle.core_reduce.specs.Sides.{IsKept, IsPlaced, class_trees};
 ghost use Rattle.core_reduce.specs.Values.{IsValueOf, classes, former_class, former_parts, former_tree};
 ghost use Rattle.core_reduce.specs.declared.side.SideClass.TheVariants.{OfKind, OfType};
 ghost use Rattle.core_check.specs.Faults.{IsStopped, path_of};
 ghost use Rattle.core_check.specs.Formers.{Binds, IsSplit, binder_of, other_form};
+ghost use Rattle.core_check.specs.Reasons.{IsWhy};
 ghost use Rattle.core_check.specs.Questions.{FindsParts, MeetsHeadForm, MeetsSame, Passes};
 
 use crate::fault::{Fault, Place};
@@ -115,11 +117,45 @@ impl Rules<'_> {
             Ok(parts) => Ok(parts),
             Err(value) => {
                 let head = value.tree_guide(self.alloc)?;
-                let why = match former {
-                    Former::Iota => Why::NotAnIntersection { head },
-                    _ => Why::NotAFunction { head },
-                };
-                Err(Fault::refusal(self.alloc, Place::Part(part), why))
+                Err(Fault::refusal(
+                    self.alloc,
+                    Place::Part(part),
+                    other(former, head),
+                ))
+            }
+        }
+    }
+
+    /// The parts of the product of kinds that the kind of this part is.
+    pub(crate) fn kind_parts(
+        &self,
+        part: u32,
+        former: Former,
+        found: &GuideKind,
+    ) -> Result<(Side, Side), Fault>
+        requires former { Binds former }
+        requires class { former_class former ≡ OfKind }
+        requires placed { IsPlaced 4250000000 (item_sorts self.now.items.now) guide_kinds found.now }
+        ensures finds { FindsParts self.now.items.now self.now.budget
+            (λ k. ask_head (part ∷ []) found.now (λ b. binder_parts (binder_of former) b k (refuse (part ∷ []) (other_form former b)))) result }
+        ensures classes { IfOk result (λ p. classes (p.0 ∷ p.1 ∷ []) ≡ former_parts former) }
+        ensures fits { IfOk result (λ p. (vs : List Sort) → Fits (within vs (item_sorts self.now.items.now)) guide_kinds found.now
+            → Fits (within vs (item_sorts self.now.items.now)) guide_kinds (former_tree former (p.0 ∷ p.1 ∷ []))) }
+    {
+        let side = Side::of_guide_kind(self.alloc, found)?;
+        let value = self.head(Place::Part(part), &side)?;
+        match split(former, value) {
+            Ok(parts) => Ok(parts),
+            Err(value) => {
+                let found = value.tree_kind(self.alloc)?;
+                Err(Fault::refusal(
+                    self.alloc,
+                    Place::Part(part),
+                    Why::WrongKind {
+                        found,
+                        wanted: None,
+                    },
+                ))
             }
         }
     }
@@ -133,6 +169,18 @@ fn stopped(alloc: Global, place: Place, stop: Stop) -> Fault
         Stop::Spent => Fault::undecided(alloc, place),
         Stop::TooDeep => Fault::TooDeep,
         Stop::NoMemory => Fault::NoMemory,
+    }
+}
+
+/// Why a head form is refused that is no product, or no intersection, of types.
+fn other(former: Former, head: Kept<Guide>) -> Why
+    requires former { Binds former }
+    requires class { former_class former ≡ OfType }
+    ensures { (a : Tree) → IsKept a head → IsWhy (other_form former a) result }
+{
+    match former {
+        Former::Iota => Why::NotAnIntersection { head },
+        _ => Why::NotAFunction { head },
     }
 }
 
@@ -153,14 +201,21 @@ fn split(former: Former, value: Value) -> Result<(Side, Side), Value>
                     parts,
                 });
             }
-            let Some(right) = parts.pop() else {
-                unreachable!()
-            };
-            let Some(left) = parts.pop() else {
-                unreachable!()
-            };
+            let right = pop(&mut parts);
+            let left = pop(&mut parts);
             Ok((left, right))
         }
         value => Err(value),
     }
+}
+
+/// Takes the last part off the list.
+fn pop(parts: &mut Vec<Side>) -> Side
+    requires { parts.old.items ≡ [] → ⊥ }
+    ensures { parts.old.items ≡ parts.new.items ++ result ∷ [] }
+{
+    let Some(part) = parts.pop() else {
+        unreachable!()
+    };
+    part
 }

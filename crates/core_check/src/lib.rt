@@ -4,5 +4,9 @@
 mod ask;
 mod context;
 mod fault;
+mod kind;
+mod limit;
+mod term;
+mod ty;
 
 pub use core_tree::{Checked, CoreFault, Why};
