@@ -4,3 +4,5 @@ pub mod Splits
 pub mod Asked
 pub mod Found
 pub mod Looked
+pub mod Known
+pub mod Placed

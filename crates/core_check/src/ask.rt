@@ -195,15 +195,15 @@ fn split(former: Former, value: Value) -> Result<(Side, Side), Value>
             former: found,
             mut parts,
         } => {
-            if found != former {
-                return Err(Value::Former {
-                    former: found,
-                    parts,
-                });
+            if found == former {
+                let right = pop(&mut parts);
+                let left = pop(&mut parts);
+                return Ok((left, right));
             }
-            let right = pop(&mut parts);
-            let left = pop(&mut parts);
-            Ok((left, right))
+            Err(Value::Former {
+                former: found,
+                parts,
+            })
         }
         value => Err(value),
     }

@@ -12,7 +12,7 @@ pub shift-requires : goal.shift-requires
 shift-requires t c =
     let fits = subst (λ (x : Context). ContextFits (item_sorts c.args.self.now.items.now) (entries x)) c.in-Type.is c.requires.fits in
     let few = subst (λ (x : Context). length (entries x) + c.args.passed ≤ 4096) c.in-Type.is c.requires.few in
-    raises guide_kinds (item_sorts c.args.self.now.items.now) (entries c.in-Type.outer.now) c.args.passed c.in-Type.kind.now tt c.known.ensures fits.0 (omega (arith, few)) c.depth-_depth.ensures.bounded
+    raises guide_kinds (item_sorts c.args.self.now.items.now) (entries c.in-Type.outer.now) c.args.passed c.in-Type.kind.now tt c.known.ensures fits.0 (omega (arith, few)) c.depth-depth.ensures.bounded
 
 pub returns-in_ok-shift-in-Type : goal.returns-in_ok-shift-in-Type
 returns-in_ok-shift-in-Type t c =
@@ -27,4 +27,7 @@ returns-else-index-eq0 t c =
 
 pub returns-in-Term : goal.returns-in-Term
 returns-in-Term t c =
-    let at = subst (λ (x : Context). slice_get (sorts x) c.args.index ≡ Some OfType) c.in-Term.is c.requires.is_type in ?
+    let at = subst (λ (x : Context). slice_get (sorts x) c.args.index ≡ Some OfType) c.in-Term.is c.requires.is_type in
+    let e = further c.args.passed c.args.index (term_of c.in-Term.field-0.now) (entries c.in-Term.outer.now) (not_innermost OfTerm OfType (sorts c.in-Term.outer.now) c.args.index (λ i. cc) at) in
+    subst (λ (x : Context). IfOk c.kind_of-in-Term.result (λ r. option_map (lifted c.args.passed) (entry (entries x) c.args.index) ≡ Some (type_of r))) (sym c.in-Term.is)
+    (subst (λ (o : Option Entry). IfOk c.kind_of-in-Term.result (λ r. o ≡ Some (type_of r))) e c.kind_of-in-Term.ensures)

@@ -12,7 +12,7 @@ pub shift-requires : goal.shift-requires
 shift-requires t c =
     let fits = subst (λ (x : Context). ContextFits (item_sorts c.args.self.now.items.now) (entries x)) c.in-Term.is c.requires.fits in
     let few = subst (λ (x : Context). length (entries x) + c.args.passed ≤ 4096) c.in-Term.is c.requires.few in
-    raises guides (item_sorts c.args.self.now.items.now) (entries c.in-Term.outer.now) c.args.passed c.in-Term.ty.now tt c.known.ensures fits.0 (omega (arith, few)) c.depth-_depth.ensures.bounded
+    raises guides (item_sorts c.args.self.now.items.now) (entries c.in-Term.outer.now) c.args.passed c.in-Term.ty.now tt c.known.ensures fits.0 (omega (arith, few)) c.depth-depth.ensures.bounded
 
 pub returns-in_ok-shift-in-Term : goal.returns-in_ok-shift-in-Term
 returns-in_ok-shift-in-Term t c =
@@ -27,4 +27,7 @@ returns-else-index-eq0 t c =
 
 pub returns-in-Type : goal.returns-in-Type
 returns-in-Type t c =
-    let at = subst (λ (x : Context). slice_get (sorts x) c.args.index ≡ Some OfTerm) c.in-Type.is c.requires.term in ?
+    let at = subst (λ (x : Context). slice_get (sorts x) c.args.index ≡ Some OfTerm) c.in-Type.is c.requires.term in
+    let e = further c.args.passed c.args.index (type_of c.in-Type.field-0.now) (entries c.in-Type.outer.now) (not_innermost OfType OfTerm (sorts c.in-Type.outer.now) c.args.index (λ i. cc) at) in
+    subst (λ (x : Context). IfOk c.type_of-in-Type.result (λ r. option_map (lifted c.args.passed) (entry (entries x) c.args.index) ≡ Some (term_of r))) (sym c.in-Type.is)
+    (subst (λ (o : Option Entry). IfOk c.type_of-in-Type.result (λ r. o ≡ Some (term_of r))) e c.type_of-in-Type.ensures)
