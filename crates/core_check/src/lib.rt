@@ -6,6 +6,7 @@ mod context;
 mod fault;
 mod kind;
 mod limit;
+mod sides;
 mod term;
 mod ty;
 
