@@ -20,6 +20,7 @@ use core_tree::{Guide, GuideKind, Kept, Why};
 use std::alloc::Global;
 
 /// The items so far, over which Core's rules are read, and the budget of each question.
+#[derive(Drop)]
 pub(crate) struct Rules<'a> {
     pub(crate) alloc: Global,
     pub(crate) items: &'a CheckedItems,

@@ -336,20 +336,20 @@ first-returns t c = c.in_ok-found.ensures.finds _ _ (c.in_ok-left.ensures.finds 
 pub second-type_parts-requires-clause-placed : goal.second-type_parts-requires-clause-placed
 second-type_parts-requires-clause-placed t c = placed (entries c.args.context.now) (item_sorts c.args.self.now.items.now) (omega arith) guides c.in_ok-found.found c.in_ok-found.ensures.fits
 
-pub second-returns-in_err-right : goal.second-returns-in_err-right
-second-returns-in_err-right t c = let p = err_from_is_err_and c.from_residual-in_err-right.result c.from_residual-in_err-right.ensures.1 in rw (p.1, p.2) (c.in_ok-found.ensures.finds _ _ (c.in_err-right.ensures.finds _))
+pub second-returns-in_err-_left : goal.second-returns-in_err-_left
+second-returns-in_err-_left t c = let p = err_from_is_err_and c.from_residual-in_err-_left.result c.from_residual-in_err-_left.ensures.1 in rw (p.1, p.2) (c.in_ok-found.ensures.finds _ _ (c.in_err-_left.ensures.finds _))
 
 pub second-returns-in_err-part : goal.second-returns-in_err-part
 second-returns-in_err-part t c = let p = err_from_is_err_and c.from_residual-in_err-part.result c.from_residual-in_err-part.ensures.1 in rw (p.1, p.2) (no_memory _ _ _)
 
 pub second-put_term_in_type-requires-clause-used : goal.second-put_term_in_type-requires-clause-used
-second-put_term_in_type-requires-clause-used t c = used (sorts c.args.context.now) (item_sorts c.args.self.now.items.now) OfTerm guides c.in_ok-right.right.tree (c.in_ok-right.ensures.fits _ c.in_ok-found.ensures.fits).1
+second-put_term_in_type-requires-clause-used t c = used (sorts c.args.context.now) (item_sorts c.args.self.now.items.now) OfTerm guides c.in_ok-_left.right.tree (c.in_ok-_left.ensures.fits _ c.in_ok-found.ensures.fits).1
 
 pub second-put_term_in_type-requires-clause-below : goal.second-put_term_in_type-requires-clause-below
 second-put_term_in_type-requires-clause-below t c = erased_below (entries c.args.context.now) (item_sorts c.args.self.now.items.now) (omega arith) terms c.args.part.now _ c.requires.fits c.in_ok-found.ensures.erasure c.in_ok-part.ensures.is
 
 pub second-returns : goal.second-returns
-second-returns t c = rw (← c.in_ok-part.ensures.is) (c.in_ok-found.ensures.finds _ _ (c.in_ok-right.ensures.finds _ _ (limited_meets _ _ _ _ c.put_term_in_type.ensures)))
+second-returns t c = rw (← c.in_ok-part.ensures.is) (c.in_ok-found.ensures.finds _ _ (c.in_ok-_left.ensures.finds _ _ (limited_meets _ _ _ _ c.put_term_in_type.ensures)))
 
 pub rewriting-sides-requires : goal.rewriting-sides-requires
 rewriting-sides-requires t c = placed (entries c.args.context.now) (item_sorts c.args.self.now.items.now) (omega arith) guides c.in_ok-found.found c.in_ok-found.ensures.fits
@@ -360,11 +360,11 @@ rewriting-put_side-requires-clause-used t c = used (sorts c.args.context.now) (i
 pub rewriting-put_side-requires-clause-below : goal.rewriting-put_side-requires-clause-below
 rewriting-put_side-requires-clause-below t c = below (entries c.args.context.now) (item_sorts c.args.self.now.items.now) (omega arith) pure_terms c.in_ok-left.left.tree (c.in_ok-left.ensures.fits _ c.in_ok-found.ensures.fits).0
 
-pub rewriting-put_side-2-requires-clause-used : goal.rewriting-put_side-2-requires-clause-used
-rewriting-put_side-2-requires-clause-used t c = used (sorts c.args.context.now) (item_sorts c.args.self.now.items.now) OfTerm guides c.args.guide.now c.requires.fits.0.1
+pub rewriting-put_side-requires-2-clause-used : goal.rewriting-put_side-requires-2-clause-used
+rewriting-put_side-requires-2-clause-used t c = used (sorts c.args.context.now) (item_sorts c.args.self.now.items.now) OfTerm guides c.args.guide.now c.requires.fits.0.1
 
-pub rewriting-put_side-2-requires-clause-below : goal.rewriting-put_side-2-requires-clause-below
-rewriting-put_side-2-requires-clause-below t c = below (entries c.args.context.now) (item_sorts c.args.self.now.items.now) (omega arith) pure_terms c.in_ok-left.right.tree (c.in_ok-left.ensures.fits _ c.in_ok-found.ensures.fits).1
+pub rewriting-put_side-requires-2-clause-below : goal.rewriting-put_side-requires-2-clause-below
+rewriting-put_side-requires-2-clause-below t c = below (entries c.args.context.now) (item_sorts c.args.self.now.items.now) (omega arith) pure_terms c.in_ok-left.right.tree (c.in_ok-left.ensures.fits _ c.in_ok-found.ensures.fits).1
 
 pub rewriting-same_types-requires : goal.rewriting-same_types-requires
 rewriting-same_types-requires t c = both_placed (entries c.args.context.now) (item_sorts c.args.self.now.items.now) (omega arith) guides c.in_ok-ty.ty c.in_ok-before.before c.in_ok-ty.ensures.fits (put_fit (sorts c.args.context.now) (item_sorts c.args.self.now.items.now) OfTerm guides c.args.guide.now c.in_ok-left.left.tree c.in_ok-before.before tt (c.in_ok-left.ensures.fits _ c.in_ok-found.ensures.fits).0 c.requires.fits.0.1 c.in_ok-before.ensures.0)
@@ -382,19 +382,19 @@ pub rewriting-returns-in_err-before : goal.rewriting-returns-in_err-before
 rewriting-returns-in_err-before t c = let p = err_from_is_err_and c.from_residual-in_err-before.result c.from_residual-in_err-before.ensures.1 in rw (p.1, p.2) (rw (← c.in_ok-ty.ensures.is) (c.in_ok-found.ensures.finds _ _ (c.in_ok-left.ensures.finds _ _ (c.in_ok-ty.ensures.passes _ _ (limited_fault _ _ _ _ _ c.in_err-before.ensures)))))
 
 pub rewriting-returns-in_err-same_types : goal.rewriting-returns-in_err-same_types
-rewriting-returns-in_err-same_types t c = let p = err_from_is_err_and c.from_residual-in_err-same_types.result c.from_residual-in_err-same_types.ensures.1 in rw (p.1, p.2) (rw (← c.in_ok-ty.ensures.is, ← c.in_ok-before.ensures.0) (c.in_ok-found.ensures.finds _ _ (c.in_ok-left.ensures.finds _ _ (c.in_ok-ty.ensures.passes _ _ (leads_low _ _ c.in_ok-before.before _ (rw c.in_ok-before.ensures.0 c.in_ok-before.ensures.1) _ (c.in_err-same_types.ensures _))))))
+rewriting-returns-in_err-same_types t c = let p = err_from_is_err_and c.from_residual-in_err-same_types.result c.from_residual-in_err-same_types.ensures.1 in rw (p.1, p.2) (rw (← c.in_ok-ty.ensures.is) (c.in_ok-found.ensures.finds _ _ (c.in_ok-left.ensures.finds _ _ (rw (← c.in_ok-before.ensures.0) (c.in_ok-ty.ensures.passes _ _ (leads_low _ _ c.in_ok-before.before _ (rw c.in_ok-before.ensures.0 c.in_ok-before.ensures.1) _ (c.in_err-same_types.ensures _)))))))
 
 pub rewriting-returns-in_err-found-2 : goal.rewriting-returns-in_err-found-2
-rewriting-returns-in_err-found-2 t c = let p = err_from_is_err_and c.from_residual-in_err-found-2.result c.from_residual-in_err-found-2.ensures.1 in rw (p.1, p.2) (rw (← c.in_ok-ty.ensures.is, ← c.in_ok-before.ensures.0) (c.in_ok-found.ensures.finds _ _ (c.in_ok-left.ensures.finds _ _ (c.in_ok-ty.ensures.passes _ _ (leads_low _ _ c.in_ok-before.before _ (rw c.in_ok-before.ensures.0 c.in_ok-before.ensures.1) _ (c.in_ok-same_types.ensures _ _ (c.in_err-found-2.ensures.finds _)))))))
+rewriting-returns-in_err-found-2 t c = let p = err_from_is_err_and c.from_residual-in_err-found-2.result c.from_residual-in_err-found-2.ensures.1 in rw (p.1, p.2) (rw (← c.in_ok-ty.ensures.is) (c.in_ok-found.ensures.finds _ _ (c.in_ok-left.ensures.finds _ _ (rw (← c.in_ok-before.ensures.0) (c.in_ok-ty.ensures.passes _ _ (leads_low _ _ c.in_ok-before.before _ (rw c.in_ok-before.ensures.0 c.in_ok-before.ensures.1) _ (c.in_ok-same_types.ensures _ _ (c.in_err-found-2.ensures.finds _))))))))
 
 pub rewriting-returns-in_err-after : goal.rewriting-returns-in_err-after
-rewriting-returns-in_err-after t c = let p = err_from_is_err_and c.from_residual-in_err-after.result c.from_residual-in_err-after.ensures.1 in rw (p.1, p.2) (rw (← c.in_ok-ty.ensures.is, ← c.in_ok-before.ensures.0) (c.in_ok-found.ensures.finds _ _ (c.in_ok-left.ensures.finds _ _ (c.in_ok-ty.ensures.passes _ _ (leads_low _ _ c.in_ok-before.before _ (rw c.in_ok-before.ensures.0 c.in_ok-before.ensures.1) _ (c.in_ok-same_types.ensures _ _ (c.in_ok-found-2.ensures.finds _ _ (limited_fault _ _ _ _ _ c.in_err-after.ensures))))))))
+rewriting-returns-in_err-after t c = let p = err_from_is_err_and c.from_residual-in_err-after.result c.from_residual-in_err-after.ensures.1 in rw (p.1, p.2) (rw (← c.in_ok-ty.ensures.is) (c.in_ok-found.ensures.finds _ _ (c.in_ok-left.ensures.finds _ _ (rw (← c.in_ok-before.ensures.0) (c.in_ok-ty.ensures.passes _ _ (leads_low _ _ c.in_ok-before.before _ (rw c.in_ok-before.ensures.0 c.in_ok-before.ensures.1) _ (c.in_ok-same_types.ensures _ _ (c.in_ok-found-2.ensures.finds _ _ (limited_fault _ _ _ _ _ c.in_err-after.ensures)))))))))
 
 pub rewriting-returns-in_err-has_whole_type : goal.rewriting-returns-in_err-has_whole_type
-rewriting-returns-in_err-has_whole_type t c = let p = err_from_is_err_and c.from_residual-in_err-has_whole_type.result c.from_residual-in_err-has_whole_type.ensures.1 in rw (p.1, p.2) (rw (← c.in_ok-ty.ensures.is, ← c.in_ok-before.ensures.0, ← c.in_ok-after.ensures.0) (c.in_ok-found.ensures.finds _ _ (c.in_ok-left.ensures.finds _ _ (c.in_ok-ty.ensures.passes _ _ (leads_low _ _ c.in_ok-before.before _ (rw c.in_ok-before.ensures.0 c.in_ok-before.ensures.1) _ (c.in_ok-same_types.ensures _ _ (c.in_ok-found-2.ensures.finds _ _ (leads_low _ _ c.in_ok-after.after _ (rw c.in_ok-after.ensures.0 c.in_ok-after.ensures.1) _ (c.in_err-has_whole_type.ensures _)))))))))
+rewriting-returns-in_err-has_whole_type t c = let p = err_from_is_err_and c.from_residual-in_err-has_whole_type.result c.from_residual-in_err-has_whole_type.ensures.1 in rw (p.1, p.2) (rw (← c.in_ok-ty.ensures.is) (c.in_ok-found.ensures.finds _ _ (c.in_ok-left.ensures.finds _ _ (rw (← c.in_ok-before.ensures.0, ← c.in_ok-after.ensures.0) (c.in_ok-ty.ensures.passes _ _ (leads_low _ _ c.in_ok-before.before _ (rw c.in_ok-before.ensures.0 c.in_ok-before.ensures.1) _ (c.in_ok-same_types.ensures _ _ (c.in_ok-found-2.ensures.finds _ _ (leads_low _ _ c.in_ok-after.after _ (rw c.in_ok-after.ensures.0 c.in_ok-after.ensures.1) _ (c.in_err-has_whole_type.ensures _))))))))))
 
 pub rewriting-returns : goal.rewriting-returns
-rewriting-returns t c = rw (← c.in_ok-ty.ensures.is, ← c.in_ok-before.ensures.0, ← c.in_ok-after.ensures.0) (c.in_ok-found.ensures.finds _ _ (c.in_ok-left.ensures.finds _ _ (c.in_ok-ty.ensures.passes _ _ (leads_low _ _ c.in_ok-before.before _ (rw c.in_ok-before.ensures.0 c.in_ok-before.ensures.1) _ (c.in_ok-same_types.ensures _ _ (c.in_ok-found-2.ensures.finds _ _ (leads_low _ _ c.in_ok-after.after _ (rw c.in_ok-after.ensures.0 c.in_ok-after.ensures.1) _ (c.in_ok-has_whole_type.ensures _ _ (limited_meets _ _ _ _ c.limited.ensures)))))))))
+rewriting-returns t c = rw (← c.in_ok-ty.ensures.is) (c.in_ok-found.ensures.finds _ _ (c.in_ok-left.ensures.finds _ _ (rw (← c.in_ok-before.ensures.0, ← c.in_ok-after.ensures.0) (c.in_ok-ty.ensures.passes _ _ (leads_low _ _ c.in_ok-before.before _ (rw c.in_ok-before.ensures.0 c.in_ok-before.ensures.1) _ (c.in_ok-same_types.ensures _ _ (c.in_ok-found-2.ensures.finds _ _ (leads_low _ _ c.in_ok-after.after _ (rw c.in_ok-after.ensures.0 c.in_ok-after.ensures.1) _ (c.in_ok-has_whole_type.ensures _ _ (limited_meets _ _ _ _ c.limited.ensures))))))))))
 
 pub cast-sides-requires : goal.cast-sides-requires
 cast-sides-requires t c = placed (entries c.args.context.now) (item_sorts c.args.self.now.items.now) (omega arith) guides c.in_ok-found.found c.in_ok-found.ensures.fits
@@ -411,8 +411,8 @@ cast-returns-in_err-part t c = let p = err_from_is_err_and c.from_residual-in_er
 pub cast-same_terms-requires-clause-placed : goal.cast-same_terms-requires-clause-placed
 cast-same_terms-requires-clause-placed t c = both_placed (entries c.args.context.now) (item_sorts c.args.self.now.items.now) (omega arith) pure_terms c.in_ok-left.left.tree c.in_ok-part.part (c.in_ok-left.ensures.fits _ c.in_ok-found.ensures.fits).0 (erased_fit (sorts c.args.context.now) (item_sorts c.args.self.now.items.now) terms c.args.part.now c.in_ok-part.part c.requires.fits.0.1 c.in_ok-found-2.ensures.erasure c.in_ok-part.ensures.is)
 
-pub cast-same_terms-2-requires-clause-placed : goal.cast-same_terms-2-requires-clause-placed
-cast-same_terms-2-requires-clause-placed t c = both_placed (entries c.args.context.now) (item_sorts c.args.self.now.items.now) (omega arith) pure_terms c.in_ok-left.right.tree c.args.kept.now (c.in_ok-left.ensures.fits _ c.in_ok-found.ensures.fits).1 c.requires.fits.1
+pub cast-same_terms-requires-2-clause-placed : goal.cast-same_terms-requires-2-clause-placed
+cast-same_terms-requires-2-clause-placed t c = both_placed (entries c.args.context.now) (item_sorts c.args.self.now.items.now) (omega arith) pure_terms c.in_ok-left.right.tree c.args.kept.now (c.in_ok-left.ensures.fits _ c.in_ok-found.ensures.fits).1 c.requires.fits.1
 
 pub cast-returns-in_err-same_terms : goal.cast-returns-in_err-same_terms
 cast-returns-in_err-same_terms t c = let p = err_from_is_err_and c.from_residual-in_err-same_terms.result c.from_residual-in_err-same_terms.ensures.1 in rw (p.1, p.2) (rw (← c.in_ok-part.ensures.is) (c.in_ok-found.ensures.finds _ _ (c.in_ok-left.ensures.finds _ _ (c.in_ok-found-2.ensures.finds _ _ (c.in_err-same_terms.ensures _)))))

@@ -1,4 +1,4 @@
-use Rattle.std.proofs.Common.{Some, ◌∷◌, [], ap, refl, subst}
+use Rattle.std.proofs.Common.{ap, refl, subst}
 use Rattle.std.proofs.lemmas.Result.{err_from_is_err_and}
 use Rattle.cdle_model.specs.Trees.{Tree}
 use Rattle.cdle_model.specs.Forms.{eq}

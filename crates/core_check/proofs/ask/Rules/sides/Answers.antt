@@ -1,7 +1,6 @@
-use Rattle.std.proofs.Common.{◌∷◌, [], Ok, Err, subst, sym}
+use Rattle.std.proofs.Common.{◌∷◌, [], Ok, Err, subst}
 use Rattle.std.proofs.lemmas.Result.{err_from_is_err_and}
-use Rattle.cdle_model.specs.Trees.{Tree}
-use Rattle.core_reduce.specs.declared.side.SideClass.TheVariants.{OfKind, OfType}
+use Rattle.core_reduce.specs.declared.side.SideClass.TheVariants.{OfType}
 use Rattle.core_reduce.specs.declared.value.Value.{Value}
 use Rattle.core_reduce.specs.Sides.{IsKept, Sided}
 use Rattle.core_reduce.specs.Values.{value_tree}
