@@ -117,6 +117,22 @@ module _ (n : ℕ) (all es rest checked : List Written) (names : List ℕ → Op
           rw (a, l) (s.units + m, u)
       is_faulty i f.TooDeep (c.TooDeep j) g k (m, h) = let a = k ∙ g ∙ counted in rw a (s.units + m, verdict m (halts deep) tt h)
       is_faulty i f.NoMemory c.NoMemory g k h = tt
+      is_faulty i (f.Refused p v) (c.Undecided j q) g k h = absurd k
+      is_faulty i (f.Refused p v) (c.Duplicate j l) g k h = absurd k
+      is_faulty i (f.Refused p v) (c.TooDeep j) g k h = absurd k
+      is_faulty i (f.Refused p v) c.NoMemory g k h = absurd k
+      is_faulty i (f.Undecided p) (c.Refused j q u) g k h = absurd k
+      is_faulty i (f.Undecided p) (c.Duplicate j l) g k h = absurd k
+      is_faulty i (f.Undecided p) (c.TooDeep j) g k h = absurd k
+      is_faulty i (f.Undecided p) c.NoMemory g k h = absurd k
+      is_faulty i f.TooDeep (c.Refused j q u) g k h = absurd k
+      is_faulty i f.TooDeep (c.Undecided j q) g k h = absurd k
+      is_faulty i f.TooDeep (c.Duplicate j l) g k h = absurd k
+      is_faulty i f.TooDeep c.NoMemory g k h = absurd k
+      is_faulty i f.NoMemory (c.Refused j q u) g k h = absurd k
+      is_faulty i f.NoMemory (c.Undecided j q) g k h = absurd k
+      is_faulty i f.NoMemory (c.Duplicate j l) g k h = absurd k
+      is_faulty i f.NoMemory (c.TooDeep j) g k h = absurd k
 
       -- the item is accepted
       pub advances : (a : Tree) (es' checked' : List Written) (names' : List ℕ → Option ℕ) → es' ≡ es ++ (w ∷ []) → checked' ≡ checked ++ (w ∷ []) → ((q : List ℕ) → names' q ≡ cond (bytes_eq (name_of w) q) (Some (length checked)) (names q))

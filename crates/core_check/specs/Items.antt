@@ -1,5 +1,5 @@
 -- The items of files.
-use Rattle.std.specs.Prelude.{List, [], ◌++◌}
+use Rattle.std.specs.Prelude.{List, [], ◌∷◌, ◌++◌}
 use Rattle.cdle_model.specs.Forms.{Written}
 use Rattle.core_tree.specs.declared.items.CoreFile.{CoreFile}
 
