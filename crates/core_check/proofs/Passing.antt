@@ -1,5 +1,5 @@
 -- Questions that pass up to others, and those of a part as seen from its form.
-use Rattle.std.proofs.Common.{◌≡◌, inl, inr, ℕ, ◌+◌, List, [], ◌∷◌, refl, sym, ap, ◌∙◌, subst, arith}
+use Rattle.std.proofs.Common.{◌≡◌, inl, inr, ℕ, ◌+◌, List, ◌∷◌, refl, sym, ap, ◌∙◌, subst, arith}
 use Rattle.cdle_model.specs.Trees.{Tree}
 use Rattle.cdle_model.specs.Machine.{Outcome, answered, spent}
 use Rattle.cdle_model.specs.HeadForms.{HeadAnswer, value, no_value, head_form}

@@ -1,5 +1,5 @@
 -- Results of questions: of those that others lead to, and the faults.
-use Rattle.std.proofs.Common.{◌≡◌, inl, ℕ, ◌+◌, ◌<◌, ◌≤◌, true, false, ltb, List, [], ◌∷◌, Result, Ok, Err, refl, sym, ap, ◌∙◌, subst, arith}
+use Rattle.std.proofs.Common.{◌≡◌, inl, ℕ, ◌+◌, ◌≤◌, true, false, ltb, List, Result, Ok, Err, refl, sym, ap, ◌∙◌, arith}
 use Rattle.std.proofs.lemmas.Bool.{lt-ltb, le-ltb}
 use Rattle.cdle_model.specs.Trees.{Tree}
 use Rattle.cdle_model.specs.Forms.{Written}
@@ -11,7 +11,6 @@ use Rattle.cdle_model.specs.Derivation.{bodies, signature}
 use Rattle.cdle_model.specs.Check.{Reason, Finding, gives, refused, halts, Questions, finds, refuse, ask_same, ask_head, at_part, unless_deep, limited, by_answer, by_head, answer}
 use Rattle.core_check.specs.declared.fault.Fault.{Fault}
 use Rattle.core_check.specs.declared.fault.Fault.TheVariants as f
-use Rattle.core_check.specs.Reasons.{IsWhy}
 use Rattle.core_check.specs.Faults.{IsInside, IsRefusal, IsSpent, IsLimited}
 use Rattle.core_check.specs.Questions.{Meets, Leads, Passes}
 use Rattle.core_check.specs.Answer.{MeetsItem}

@@ -8,12 +8,12 @@ use Rattle.cdle_model.specs.Classes.{AreOver, IsOver}
 use Rattle.cdle_model.specs.HeadForms.{deep}
 use Rattle.cdle_model.specs.Derivation.{bodies, signature}
 use Rattle.cdle_model.specs.FirstCheck.{first_of}
-use Rattle.cdle_model.specs.Check.{Finding, gives, refused, halts, infer_item, ListVerdict, accepts, duplicate, by_name, by_finding, check_item, check_after, check_items, SpentAfter, UndecidedAfter, IsUndecided}
+use Rattle.cdle_model.specs.Check.{Finding, gives, refused, halts, infer_item, by_name, by_finding, check_item, check_after, check_items, SpentAfter, UndecidedAfter, IsUndecided}
 use Rattle.core_tree.specs.declared.faults.CoreFault.{CoreFault}
 use Rattle.core_tree.specs.declared.faults.CoreFault.TheVariants as c
 use Rattle.core_check.specs.declared.fault.Fault.{Fault}
 use Rattle.core_check.specs.declared.fault.Fault.TheVariants as f
-use Rattle.core_check.specs.Answer.{IsAnswer, IsOfItem, MeetsItem}
+use Rattle.core_check.specs.Answer.{IsAnswer, IsOfItem}
 use Rattle.core_check.specs.Questions.{Meets}
 use Rattle.core_check.proofs.Passing.{IsFirm, firm_more, spent_more}
 

@@ -1,9 +1,8 @@
 -- What an answer says of the verdict with the units given, and whether it is true.
-use Rattle.std.proofs.Common.{◌≡◌, ℕ, suc, ◌+◌, List, take, Result, Ok, Err, refl, sym, subst, ◌∙◌, arith}
+use Rattle.std.proofs.Common.{◌≡◌, ℕ, ◌+◌, List, Result, Ok, Err, refl, sym, subst, ◌∙◌, arith}
 use Rattle.cdle_model.specs.Forms.{Written}
 use Rattle.cdle_model.specs.Classes.{AreItems}
 use Rattle.cdle_model.specs.HeadForms.{deep}
-use Rattle.cdle_model.specs.Derivation.{AreDerived}
 use Rattle.cdle_model.specs.Check.{ListVerdict, accepts, refuses, spends, ends, duplicate, check_items}
 use Rattle.cdle_model.proofs.CheckLargerBudget.{list-stays}
 use Rattle.cdle_model.proofs.ItemsChecked.{accepted-derived, refused-lost, duplicate-lost}

@@ -15,7 +15,7 @@ returns-in_err-found-clause-meets c x =
     let p = err_from_is_err_and c.from_residual-in_err-found.result c.from_residual-in_err-found.ensures.1 in rw (p.1, p.2) (c.in_ok-wanted.ensures.passes _ _ (c.in_err-found.ensures.finds _))
 
 pub returns-in_err-wanted-2-clause-meets : goal.returns-in_err-wanted-2-clause-meets
-returns-in_err-wanted-2-clause-meets c x = let p = err_from_is_err_and c.from_residual-in_err-wanted.result c.from_residual-in_err-wanted.ensures.1 in rw (p.1, p.2) (no_memory _ _ _)
+returns-in_err-wanted-2-clause-meets c x = let p = err_from_is_err_and c.from_residual-in_err-wanted-2.result c.from_residual-in_err-wanted-2.ensures.1 in rw (p.1, p.2) (no_memory _ _ _)
 
 pub returns-clause-meets : goal.returns-clause-meets
 returns-clause-meets c x =
