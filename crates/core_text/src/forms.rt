@@ -3,6 +3,7 @@ ghost use Rattle.std.specs.Prelude.{◌≡◌, IfSome};
 ghost use Rattle.cdle_model.specs.CoreGrammar.{form_of, names_of, pieces, class_of_form};
 ghost use Rattle.cdle_model.specs.CoreNames.{same_sort};
 ghost use Rattle.cdle_model.specs.CoreFaults.{wanted_part};
+ghost use Rattle.cdle_model.specs.declared.grammar.Class.TheVariants as class;
 
 use cdle_model::{Class, CoreWanted, Form, Piece, Sort};
 
@@ -40,116 +41,146 @@ pub(crate) fn is_same(left: Sort, right: Sort) -> bool
     }
 }
 
+fn kind_form(word: &[u8]) -> Option<Form>
+    ensures value { result ≡ form_of class.Kind word.now }
+    ensures class { IfSome result (λ f. class_of_form f ≡ class.Kind) }
+{
+    if word == b"kpi".as_slice() {
+        Some(Form::Kpi)
+    } else if word == b"kpit".as_slice() {
+        Some(Form::Kpit)
+    } else {
+        None
+    }
+}
+
+fn ty_form(word: &[u8]) -> Option<Form>
+    ensures value { result ≡ form_of class.Ty word.now }
+    ensures class { IfSome result (λ f. class_of_form f ≡ class.Ty) }
+{
+    if word == b"pi".as_slice() {
+        Some(Form::Pi)
+    } else if word == b"all".as_slice() {
+        Some(Form::All)
+    } else if word == b"allt".as_slice() {
+        Some(Form::Allt)
+    } else if word == b"tlam".as_slice() {
+        Some(Form::Tlam)
+    } else if word == b"xtlam".as_slice() {
+        Some(Form::Xtlam)
+    } else if word == b"at".as_slice() {
+        Some(Form::At)
+    } else if word == b"on".as_slice() {
+        Some(Form::On)
+    } else if word == b"iota".as_slice() {
+        Some(Form::Iota)
+    } else if word == b"eq".as_slice() {
+        Some(Form::Eq)
+    } else {
+        None
+    }
+}
+
+fn term_form(word: &[u8]) -> Option<Form>
+    ensures value { result ≡ form_of class.Term word.now }
+    ensures class { IfSome result (λ f. class_of_form f ≡ class.Term) }
+{
+    if word == b"lam".as_slice() {
+        Some(Form::Lam)
+    } else if word == b"elam".as_slice() {
+        Some(Form::Elam)
+    } else if word == b"xlam".as_slice() {
+        Some(Form::Xlam)
+    } else if word == b"app".as_slice() {
+        Some(Form::App)
+    } else if word == b"eapp".as_slice() {
+        Some(Form::Eapp)
+    } else if word == b"tapp".as_slice() {
+        Some(Form::Tapp)
+    } else if word == b"pair".as_slice() {
+        Some(Form::Pair)
+    } else if word == b"fst".as_slice() {
+        Some(Form::Fst)
+    } else if word == b"snd".as_slice() {
+        Some(Form::Snd)
+    } else if word == b"beta".as_slice() {
+        Some(Form::Beta)
+    } else if word == b"rho".as_slice() {
+        Some(Form::Rho)
+    } else if word == b"phi".as_slice() {
+        Some(Form::Phi)
+    } else if word == b"delta".as_slice() {
+        Some(Form::Delta)
+    } else {
+        None
+    }
+}
+
+fn pure_form(word: &[u8]) -> Option<Form>
+    ensures value { result ≡ form_of class.Pure word.now }
+    ensures class { IfSome result (λ f. class_of_form f ≡ class.Pure) }
+{
+    if word == b"fn".as_slice() {
+        Some(Form::Function)
+    } else if word == b"ap".as_slice() {
+        Some(Form::Ap)
+    } else {
+        None
+    }
+}
+
+fn guide_form(word: &[u8]) -> Option<Form>
+    ensures value { result ≡ form_of class.Guide word.now }
+    ensures class { IfSome result (λ f. class_of_form f ≡ class.Guide) }
+{
+    if word == b"pi".as_slice() {
+        Some(Form::GuidePi)
+    } else if word == b"all".as_slice() {
+        Some(Form::GuideAll)
+    } else if word == b"allt".as_slice() {
+        Some(Form::GuideAllt)
+    } else if word == b"tlam".as_slice() {
+        Some(Form::GuideTlam)
+    } else if word == b"xtlam".as_slice() {
+        Some(Form::GuideXtlam)
+    } else if word == b"at".as_slice() {
+        Some(Form::GuideAt)
+    } else if word == b"on".as_slice() {
+        Some(Form::GuideOn)
+    } else if word == b"iota".as_slice() {
+        Some(Form::GuideIota)
+    } else if word == b"eq".as_slice() {
+        Some(Form::GuideEq)
+    } else {
+        None
+    }
+}
+
+fn guide_kind_form(word: &[u8]) -> Option<Form>
+    ensures value { result ≡ form_of class.GuideKind word.now }
+    ensures class { IfSome result (λ f. class_of_form f ≡ class.GuideKind) }
+{
+    if word == b"kpi".as_slice() {
+        Some(Form::GuideKpi)
+    } else if word == b"kpit".as_slice() {
+        Some(Form::GuideKpit)
+    } else {
+        None
+    }
+}
+
 /// The form of that word, where a part of the class is wanted.
 pub(crate) fn find_form(class: Class, word: &[u8]) -> Option<Form>
     ensures value { result ≡ form_of class word.now }
     ensures class { IfSome result (λ f. class_of_form f ≡ class) }
 {
     match class {
-        Class::Kind => {
-            if word == b"kpi".as_slice() {
-                Some(Form::Kpi)
-            } else if word == b"kpit".as_slice() {
-                Some(Form::Kpit)
-            } else {
-                None
-            }
-        }
-        Class::Ty => {
-            if word == b"pi".as_slice() {
-                Some(Form::Pi)
-            } else if word == b"all".as_slice() {
-                Some(Form::All)
-            } else if word == b"allt".as_slice() {
-                Some(Form::Allt)
-            } else if word == b"tlam".as_slice() {
-                Some(Form::Tlam)
-            } else if word == b"xtlam".as_slice() {
-                Some(Form::Xtlam)
-            } else if word == b"at".as_slice() {
-                Some(Form::At)
-            } else if word == b"on".as_slice() {
-                Some(Form::On)
-            } else if word == b"iota".as_slice() {
-                Some(Form::Iota)
-            } else if word == b"eq".as_slice() {
-                Some(Form::Eq)
-            } else {
-                None
-            }
-        }
-        Class::Term => {
-            if word == b"lam".as_slice() {
-                Some(Form::Lam)
-            } else if word == b"elam".as_slice() {
-                Some(Form::Elam)
-            } else if word == b"xlam".as_slice() {
-                Some(Form::Xlam)
-            } else if word == b"app".as_slice() {
-                Some(Form::App)
-            } else if word == b"eapp".as_slice() {
-                Some(Form::Eapp)
-            } else if word == b"tapp".as_slice() {
-                Some(Form::Tapp)
-            } else if word == b"pair".as_slice() {
-                Some(Form::Pair)
-            } else if word == b"fst".as_slice() {
-                Some(Form::Fst)
-            } else if word == b"snd".as_slice() {
-                Some(Form::Snd)
-            } else if word == b"beta".as_slice() {
-                Some(Form::Beta)
-            } else if word == b"rho".as_slice() {
-                Some(Form::Rho)
-            } else if word == b"phi".as_slice() {
-                Some(Form::Phi)
-            } else if word == b"delta".as_slice() {
-                Some(Form::Delta)
-            } else {
-                None
-            }
-        }
-        Class::Pure => {
-            if word == b"fn".as_slice() {
-                Some(Form::Function)
-            } else if word == b"ap".as_slice() {
-                Some(Form::Ap)
-            } else {
-                None
-            }
-        }
-        Class::Guide => {
-            if word == b"pi".as_slice() {
-                Some(Form::GuidePi)
-            } else if word == b"all".as_slice() {
-                Some(Form::GuideAll)
-            } else if word == b"allt".as_slice() {
-                Some(Form::GuideAllt)
-            } else if word == b"tlam".as_slice() {
-                Some(Form::GuideTlam)
-            } else if word == b"xtlam".as_slice() {
-                Some(Form::GuideXtlam)
-            } else if word == b"at".as_slice() {
-                Some(Form::GuideAt)
-            } else if word == b"on".as_slice() {
-                Some(Form::GuideOn)
-            } else if word == b"iota".as_slice() {
-                Some(Form::GuideIota)
-            } else if word == b"eq".as_slice() {
-                Some(Form::GuideEq)
-            } else {
-                None
-            }
-        }
-        Class::GuideKind => {
-            if word == b"kpi".as_slice() {
-                Some(Form::GuideKpi)
-            } else if word == b"kpit".as_slice() {
-                Some(Form::GuideKpit)
-            } else {
-                None
-            }
-        }
+        Class::Kind => kind_form(word),
+        Class::Ty => ty_form(word),
+        Class::Term => term_form(word),
+        Class::Pure => pure_form(word),
+        Class::Guide => guide_form(word),
+        Class::GuideKind => guide_kind_form(word),
     }
 }
 
@@ -168,45 +199,23 @@ pub(crate) fn pieces_of(form: Form) -> &'static [Piece]
             Piece::Part(Class::Kind),
             Piece::Under(Class::Kind),
         ],
-        Form::Pi => &[
+        Form::Pi | Form::All | Form::Tlam | Form::Iota => &[
             Piece::Binder(Sort::OfTerm),
             Piece::Part(Class::Ty),
             Piece::Under(Class::Ty),
         ],
-        Form::All => &[
-            Piece::Binder(Sort::OfTerm),
-            Piece::Part(Class::Ty),
-            Piece::Under(Class::Ty),
-        ],
-        Form::Allt => &[
-            Piece::Binder(Sort::OfType),
-            Piece::Part(Class::Kind),
-            Piece::Under(Class::Ty),
-        ],
-        Form::Tlam => &[
-            Piece::Binder(Sort::OfTerm),
-            Piece::Part(Class::Ty),
-            Piece::Under(Class::Ty),
-        ],
-        Form::Xtlam => &[
+        Form::Allt | Form::Xtlam => &[
             Piece::Binder(Sort::OfType),
             Piece::Part(Class::Kind),
             Piece::Under(Class::Ty),
         ],
         Form::At => &[Piece::Part(Class::Ty), Piece::Part(Class::Term)],
         Form::On => &[Piece::Part(Class::Ty), Piece::Part(Class::Ty)],
-        Form::Iota => &[
-            Piece::Binder(Sort::OfTerm),
-            Piece::Part(Class::Ty),
-            Piece::Under(Class::Ty),
+        Form::Eq | Form::Beta | Form::Ap | Form::GuideEq => &[
+            Piece::Part(Class::Pure),
+            Piece::Part(Class::Pure),
         ],
-        Form::Eq => &[Piece::Part(Class::Pure), Piece::Part(Class::Pure)],
-        Form::Lam => &[
-            Piece::Binder(Sort::OfTerm),
-            Piece::Part(Class::Ty),
-            Piece::Under(Class::Term),
-        ],
-        Form::Elam => &[
+        Form::Lam | Form::Elam => &[
             Piece::Binder(Sort::OfTerm),
             Piece::Part(Class::Ty),
             Piece::Under(Class::Term),
@@ -216,8 +225,7 @@ pub(crate) fn pieces_of(form: Form) -> &'static [Piece]
             Piece::Part(Class::Kind),
             Piece::Under(Class::Term),
         ],
-        Form::App => &[Piece::Part(Class::Term), Piece::Part(Class::Term)],
-        Form::Eapp => &[Piece::Part(Class::Term), Piece::Part(Class::Term)],
+        Form::App | Form::Eapp => &[Piece::Part(Class::Term), Piece::Part(Class::Term)],
         Form::Tapp => &[Piece::Part(Class::Term), Piece::Part(Class::Ty)],
         Form::Pair => &[
             Piece::Part(Class::Term),
@@ -225,9 +233,7 @@ pub(crate) fn pieces_of(form: Form) -> &'static [Piece]
             Piece::Binder(Sort::OfTerm),
             Piece::Under(Class::Ty),
         ],
-        Form::Fst => &[Piece::Part(Class::Term)],
-        Form::Snd => &[Piece::Part(Class::Term)],
-        Form::Beta => &[Piece::Part(Class::Pure), Piece::Part(Class::Pure)],
+        Form::Fst | Form::Snd => &[Piece::Part(Class::Term)],
         Form::Rho => &[
             Piece::Part(Class::Term),
             Piece::Binder(Sort::OfTerm),
@@ -242,13 +248,7 @@ pub(crate) fn pieces_of(form: Form) -> &'static [Piece]
         ],
         Form::Delta => &[Piece::Part(Class::Ty), Piece::Part(Class::Term)],
         Form::Function => &[Piece::Binder(Sort::OfTerm), Piece::Under(Class::Pure)],
-        Form::Ap => &[Piece::Part(Class::Pure), Piece::Part(Class::Pure)],
-        Form::GuidePi => &[
-            Piece::Binder(Sort::OfTerm),
-            Piece::Part(Class::Guide),
-            Piece::Under(Class::Guide),
-        ],
-        Form::GuideAll => &[
+        Form::GuidePi | Form::GuideAll | Form::GuideIota => &[
             Piece::Binder(Sort::OfTerm),
             Piece::Part(Class::Guide),
             Piece::Under(Class::Guide),
@@ -262,12 +262,6 @@ pub(crate) fn pieces_of(form: Form) -> &'static [Piece]
         Form::GuideXtlam => &[Piece::Binder(Sort::OfType), Piece::Under(Class::Guide)],
         Form::GuideAt => &[Piece::Part(Class::Guide), Piece::Part(Class::Pure)],
         Form::GuideOn => &[Piece::Part(Class::Guide), Piece::Part(Class::Guide)],
-        Form::GuideIota => &[
-            Piece::Binder(Sort::OfTerm),
-            Piece::Part(Class::Guide),
-            Piece::Under(Class::Guide),
-        ],
-        Form::GuideEq => &[Piece::Part(Class::Pure), Piece::Part(Class::Pure)],
         Form::GuideKpi => &[
             Piece::Binder(Sort::OfTerm),
             Piece::Part(Class::Guide),
