@@ -1,6 +1,6 @@
 -- The items of a file and of files, one after the other.
 use Rattle.std.proofs.Common.{◌≡◌, ℕ, suc, ◌+◌, ◌<◌, ◌≤◌, Bor, List, [], ◌∷◌, ◌++◌, length, get_or, take, drop, map, refl, sym, ap, ◌∙◌, arith, append_assoc, drop-cons}
-use Rattle.std.proofs.lemmas.List.{take_more, map-append, get_or-map, length-map, append-nil}
+use Rattle.std.proofs.lemmas.List.{take_more, map-append, get_or-map, length-map, append-nil, drop_all}
 use Rattle.cdle_model.specs.Forms.{Written}
 use Rattle.core_tree.specs.declared.items.CoreItem.{CoreItem}
 use Rattle.core_tree.specs.declared.items.CoreFile.{CoreFile}
@@ -34,26 +34,14 @@ items_more fs i f lt e = ap items_of (take_more fs i f lt) ∙ items_append (tak
 abbrev pub behind : Bor CoreItem → Written
 behind i = written i.now
 
--- the items up to one of them, and from it on
-pub up_to_next : (xs ys : List (Bor CoreItem)) (ws : List Written) (i : ℕ) (x : Bor CoreItem) → xs ≡ ys → map behind ys ≡ ws → i < length xs → x ≡ get_or xs i x
-    → take (i + 1) ws ≡ take i ws ++ (behind x ∷ [])
-up_to_next xs ys ws i x v m lt e =
-    let same = get_or-map behind xs i x (behind x) lt in
-    let len = length-map xs behind in
-    let below : i < length (map behind xs) = omega arith in
-    rw (← m, ← v) (take_more (map behind xs) i (behind x) below ∙ ap (λ (w : Written). take i (map behind xs) ++ (w ∷ [])) (same ∙ ap behind (sym e)))
-
-pub from_this : (xs ys : List (Bor CoreItem)) (ws : List Written) (i : ℕ) (x : Bor CoreItem) → xs ≡ ys → map behind ys ≡ ws → i < length xs → x ≡ get_or xs i x → drop i ws ≡ behind x ∷ drop (i + 1) ws
-from_this xs ys ws i x v m lt e =
+-- the items from one of them on
+pub from_this : (xs : List (Bor CoreItem)) (i : ℕ) (x : Bor CoreItem) → i < length xs → x ≡ get_or xs i x → drop i (map behind xs) ≡ behind x ∷ drop (i + 1) (map behind xs)
+from_this xs i x lt e =
     let same = get_or-map behind xs i x (behind x) lt in
     let len = length-map xs behind in
     let below : i < length (map behind xs) = omega arith in
     let one : suc i ≡ i + 1 = omega arith in
-    rw (← m, ← v) (drop-cons (map behind xs) i (behind x) below ∙ ap (λ (w : Written). w ∷ drop (suc i) (map behind xs)) (same ∙ ap behind (sym e)) ∙ ap (λ (n : ℕ). behind x ∷ drop n (map behind xs)) one)
+    drop-cons (map behind xs) i (behind x) below ∙ ap (λ (w : Written). w ∷ drop (suc i) (map behind xs)) (same ∙ ap behind (sym e)) ∙ ap (λ (n : ℕ). behind x ∷ drop n (map behind xs)) one
 
-pub all_passed : (xs ys : List (Bor CoreItem)) (ws : List Written) (i : ℕ) → xs ≡ ys → map behind ys ≡ ws → length xs ≤ i → length ws ≤ i
-all_passed xs ys ws i v m past =
-    let len = length-map xs behind in
-    let same = ap (λ (l : List (Bor CoreItem)). length (map behind l)) v in
-    let whole = ap length m in
-    omega arith
+pub none_left : (xs : List (Bor CoreItem)) (i : ℕ) → length xs ≤ i → drop i (map behind xs) ≡ []
+none_left xs i past = let len = length-map xs behind in drop_all i (map behind xs) (omega arith)

@@ -1,20 +1,19 @@
 -- How the check stands after some of the items.
-use Rattle.std.proofs.Common.{◌≡◌, inl, inr, ℕ, suc, ◌+◌, Bool, true, false, cond, Decides, List, [], ◌∷◌, ◌++◌, length, Option, Some, None, Ok, Err, option_map, refl, sym, ap, subst, ◌∙◌, arith}
+use Rattle.std.proofs.Common.{◌≡◌, inl, inr, ℕ, suc, ◌+◌, Bool, true, false, cond, Decides, List, [], ◌∷◌, ◌++◌, length, Option, Some, None, option_map, Ok, Err, refl, sym, ap, subst, ◌∙◌, arith}
 use Rattle.std.specs.Str.{bytes_eq}
 use Rattle.std.proofs.lemmas.Slice.Eq.{bytes_eq-Decides}
+use Rattle.std.proofs.lemmas.List.{append_assoc, append-nil}
 use Rattle.cdle_model.specs.Trees.{Tree}
 use Rattle.cdle_model.specs.Forms.{Written, name_of}
-use Rattle.cdle_model.specs.Classes.{AreOver, IsOver}
 use Rattle.cdle_model.specs.HeadForms.{deep}
+use Rattle.cdle_model.specs.Classes.{IsOver, AreOver, AreItems}
 use Rattle.cdle_model.specs.Derivation.{bodies, signature}
-use Rattle.cdle_model.specs.FirstCheck.{first_of}
+use Rattle.cdle_model.specs.Check.{first_of}
 use Rattle.cdle_model.specs.Check.{Finding, gives, refused, halts, infer_item, by_name, by_finding, check_item, check_after, check_items, SpentAfter, UndecidedAfter, IsUndecided}
+use Rattle.core_tree.specs.declared.faults.Checked.{Checked}
 use Rattle.core_tree.specs.declared.faults.CoreFault.{CoreFault}
-use Rattle.core_tree.specs.declared.faults.CoreFault.TheVariants as c
-use Rattle.core_check.specs.declared.fault.Fault.{Fault}
-use Rattle.core_check.specs.declared.fault.Fault.TheVariants as f
-use Rattle.core_check.specs.Answer.{IsAnswer, IsOfItem}
-use Rattle.core_check.specs.Questions.{Meets}
+use Rattle.core_tree.specs.declared.faults.CoreFault.TheVariants as fault
+use Rattle.core_check.specs.Answer.{IsFaultOf, IsAnswer, IsItemAnswer}
 use Rattle.core_check.proofs.Passing.{IsFirm, firm_more, spent_more}
 
 -- ---- names
@@ -47,119 +46,103 @@ named_more q es w old new fresh before step = step ∙ decided (bytes_eq (name_o
     decided true d = let none : first_of q es ≡ None = subst (λ (x : List ℕ). first_of x es ≡ None) (d.0 refl) fresh in ap (λ (o : Option ℕ). or_last o true (length es)) (sym none)
     decided false d = before ∙ no_last (first_of q es) (length es)
 
+-- ---- items that pass
+
+-- with these units or more, the items pass: the plain check says of items after them what it says of those over them
+pub record Passed (n : ℕ) (es : List Written) : Type 0 where
+  pub units : ℕ
+  pub answers : (k : ℕ) (ws : List Written) → check_items (units + k) (es ++ ws) ≡ check_after (units + k) es ws
+  pub undecided : (k : ℕ) (ws : List Written) (i : ℕ) (p : List ℕ) → UndecidedAfter n (units + k) es ws i p → IsUndecided n (units + k) (es ++ ws) i p
+
+pub none_pass : (n : ℕ) → Passed n []
+none_pass n = record { units = 0; answers = λ k ws. refl; undecided = λ k ws i p h. h }
+
+-- what is found of an item stays with more units
+finding_more : (es : List Written) (w : Written) (m k : ℕ) (x : Finding) → IsFirm x → check_item m es w ≡ x → check_item (k + m) es w ≡ x
+finding_more es w m k x f e = let c : k + m ≡ m + k = omega arith in rw c (firm_more (bodies (signature es)) m k (infer_item (signature es) w) x f e)
+
+-- the items before a new one pass, and something of it is found
+at_item : (n : ℕ) (es : List Written) (w : Written) (ws : List Written) (m : ℕ) (x : Finding) (p : Passed n es) → first_of (name_of w) es ≡ None → IsFirm x → check_item m es w ≡ x
+    → check_items (p.units + m) (es ++ (w ∷ ws)) ≡ by_finding (length es) x (check_after (p.units + m) (es ++ (w ∷ [])) ws)
+at_item n es w ws m x p new f e =
+    p.answers m (w ∷ ws) ∙ ap (λ (o : Option ℕ). by_name (length es) o (by_finding (length es) (check_item (p.units + m) es w) (check_after (p.units + m) (es ++ (w ∷ [])) ws))) new
+    ∙ ap (λ (r : Finding). by_finding (length es) r (check_after (p.units + m) (es ++ (w ∷ [])) ws)) (finding_more es w m p.units x f e)
+
+one_more_passes : (n : ℕ) (es : List Written) (w : Written) (m : ℕ) (a : Tree) → Passed n es → first_of (name_of w) es ≡ None → check_item m es w ≡ gives a → Passed n (es ++ (w ∷ []))
+one_more_passes n es w m a p new e = record {
+  units = p.units + m;
+  answers = λ k ws.
+      let c : p.units + m + k ≡ p.units + (m + k) = omega arith in
+      rw (c, append_assoc es (w ∷ []) ws) (at_item n es w ws (m + k) (gives a) p new tt (firm_more (bodies (signature es)) m k (infer_item (signature es) w) (gives a) tt e));
+  undecided = λ k ws i r h.
+      let c : p.units + m + k ≡ p.units + (m + k) = omega arith in
+      rw (c, append_assoc es (w ∷ []) ws) (p.undecided (m + k) (w ∷ ws) i r (new, inr ((a, finding_more es w (m + k) p.units (gives a) tt (firm_more (bodies (signature es)) m k (infer_item (signature es) w) (gives a) tt e)), subst (λ (z : ℕ). UndecidedAfter n z (es ++ (w ∷ [])) ws i r) c h)));
+}
 
 -- ---- the check so far
 
--- from m units on, the items before the rest pass
-pub record ItemsPass (m : ℕ) (es rest all : List Written) : Type 0 where
-  pub answers : (j : ℕ) → check_items (m + j) all ≡ check_after (m + j) es rest
-  pub undecided : (n j i : ℕ) (p : List ℕ) → UndecidedAfter n (m + j) es rest i p → IsUndecided n (m + j) all i p
-
--- after the items `es`, which were checked, before the items `rest`, with the numbers of their names
-pub record Standing (all es rest checked : List Written) (names : List ℕ → Option ℕ) : Type 0 where
-  pub units : ℕ
-  pub pass : ItemsPass units es rest all
-  pub done : checked ≡ es
+-- after the items `es`, before the items `rest`: the earlier items have these names and pass
+pub record Standing (n : ℕ) (ws es rest : List Written) (names : List ℕ → Option ℕ) : Type 0 where
+  pub whole : ws ≡ es ++ rest
   pub named : (q : List ℕ) → names q ≡ first_of q es
   pub over : AreOver es rest
+  pub passed : Passed n es
 
-pub starts : (all es rest checked : List Written) (names : List ℕ → Option ℕ) → es ≡ [] → rest ≡ all → checked ≡ [] → ((q : List ℕ) → names q ≡ None) → AreOver [] all → Standing all es rest checked names
-starts all es rest checked names e f g h o = record {
-  units = 0;
-  pass = record { answers = λ j. rw (e, f) refl; undecided = λ n j i p u. rw (e, f) at u };
-  done = g ∙ sym e;
-  named = λ q. h q ∙ sym (ap (first_of q) e);
-  over = rw (e, f) o;
-}
+pub begun : (n : ℕ) (ws : List Written) (names : List ℕ → Option ℕ) → ((q : List ℕ) → names q ≡ None) → AreItems ws → Standing n ws [] ws names
+begun n ws names h over = record { whole = refl; named = h; over = over; passed = none_pass n }
 
-module _ (n : ℕ) (all es rest checked : List Written) (names : List ℕ → Option ℕ) (s : Standing all es rest checked names) where
-  pub counted : length checked ≡ length es
-  counted = ap length s.done
+-- the next item
+module _ (n : ℕ) (ws es rest : List Written) (names : List ℕ → Option ℕ) (w : Written) (more : List Written) (s : Standing n ws es rest names) (e : rest ≡ w ∷ more) where
+  whole_is : ws ≡ es ++ (w ∷ more)
+  whole_is = s.whole ∙ ap (λ (l : List Written). es ++ l) e
 
-  module _ (w : Written) (more : List Written) (e : rest ≡ w ∷ more) where
-    pub next_over : IsOver checked w
-    next_over = rw s.done ((subst (AreOver es) e s.over).0)
+  over_is : AreOver es (w ∷ more)
+  over_is = subst (AreOver es) e s.over
 
-    -- an earlier item has the name
-    pub is_repeated : (i k : ℕ) → i ≡ length checked → names (name_of w) ≡ Some k → IsAnswer n all (Err (c.Duplicate i k))
-    is_repeated i k g h =
-        let d : first_of (name_of w) es ≡ Some k = sym (s.named (name_of w)) ∙ h in
-        let l = g ∙ counted in
-        (s.units + 0, s.pass.answers 0 ∙ ap (check_after (s.units + 0) es) e ∙ rw (d, l) refl)
+  new_is : (q : List ℕ) → q ≡ name_of w → names q ≡ None → first_of (name_of w) es ≡ None
+  new_is q named found = ap (λ (x : List ℕ). first_of x es) (sym named) ∙ sym (s.named q) ∙ found
 
-    module _ (fresh : names (name_of w) ≡ None) where
-      is_new : first_of (name_of w) es ≡ None
-      is_new = sym (s.named (name_of w)) ∙ fresh
+  pub is_over : IsOver es w
+  is_over = over_is.0
 
-      -- what is found of the item stays with the units so far
-      item_stays : (k : ℕ) (x : Finding) → IsFirm x → check_item k es w ≡ x → check_item (s.units + k) es w ≡ x
-      item_stays k x i h =
-          let q : k + s.units ≡ s.units + k = omega arith in
-          subst (λ z. check_item z es w ≡ x) q (firm_more (bodies (signature es)) k s.units (infer_item (signature es) w) x i h)
+  -- an earlier item has its name
+  pub taken : (i k : ℕ) (q : List ℕ) → i ≡ length es → q ≡ name_of w → names q ≡ Some k → IsFaultOf n ws (fault.Duplicate i k)
+  taken i k q count named found =
+      let u = s.passed.units in
+      let name : first_of (name_of w) es ≡ Some k = ap (λ (x : List ℕ). first_of x es) (sym named) ∙ sym (s.named q) ∙ found in
+      (u + 0, rw (whole_is, count) (s.passed.answers 0 (w ∷ more) ∙ ap (λ (o : Option ℕ). by_name (length es) o (by_finding (length es) (check_item (u + 0) es w) (check_after (u + 0) (es ++ (w ∷ [])) more))) name))
 
-      -- the verdict, by what is found of the item
-      verdict : (k : ℕ) (x : Finding) → IsFirm x → check_item k es w ≡ x → check_items (s.units + k) all ≡ by_finding (length es) x (check_after (s.units + k) (es ++ (w ∷ [])) more)
-      verdict k x i h =
-          s.pass.answers k ∙ ap (check_after (s.units + k) es) e ∙ ap (λ z. by_name (length es) z (by_finding (length es) (check_item (s.units + k) es w) (check_after (s.units + k) (es ++ (w ∷ [])) more))) is_new
-          ∙ ap (λ z. by_finding (length es) z (check_after (s.units + k) (es ++ (w ∷ [])) more)) (item_stays k x i h)
+  -- it has a new name, and is not accepted
+  pub faulted : (q : List ℕ) (f : CoreFault) → q ≡ name_of w → names q ≡ None → IsItemAnswer n es w (Err f) → IsFaultOf n ws f
+  faulted q fault.NoMemory named found h = tt
+  faulted q (fault.Refused i path why) named found (count, m, r, h, k) =
+      (s.passed.units + m, r, rw (whole_is, count) (at_item n es w more m (refused path r) s.passed (new_is q named found) tt h), k)
+  faulted q (fault.Undecided i path) named found (count, k, h) =
+      let u = s.passed.units in
+      let c : n + k + u ≡ u + (n + k) = omega arith in
+      let d : u + (n + k) ≡ n + (u + k) = omega arith in
+      let here = subst (λ (z : ℕ). SpentAfter (bodies (signature es)) n z path (infer_item (signature es) w)) c (spent_more (bodies (signature es)) n (n + k) u path (infer_item (signature es) w) h) in
+      let all : IsUndecided n (u + (n + k)) (es ++ (w ∷ more)) i path = s.passed.undecided (n + k) (w ∷ more) i path (new_is q named found, inl (count, here)) in
+      (u + k, rw whole_is (subst (λ (z : ℕ). IsUndecided n z (es ++ (w ∷ more)) i path) d all))
+  faulted q (fault.TooDeep i) named found (count, m, h) =
+      (s.passed.units + m, rw (whole_is, count) (at_item n es w more m (halts deep) s.passed (new_is q named found) tt h))
+  faulted q (fault.Duplicate i k) named found h = absurd h
 
-      -- the item is not accepted
-      pub is_faulty : (i : ℕ) (d : Fault) (x : CoreFault) → i ≡ length checked → IsOfItem i d x → Meets es n (infer_item (signature es) w) (Err d) → IsAnswer n all (Err x)
-      unfolding Meets
-      is_faulty i (f.Refused p v) (c.Refused j q u) g (k, l, o) (r, h, t) =
-          let a = k ∙ g ∙ counted in rw (a, l, o) (s.units + h.units, r, verdict h.units (refused p.items r) tt h.is, t)
-      is_faulty i (f.Undecided p) (c.Undecided j q) g (k, l) (m, h) =
-          let a = k ∙ g ∙ counted in
-          let b : n + m + s.units ≡ s.units + (n + m) = omega arith in
-          let d : s.units + (n + m) ≡ n + (s.units + m) = omega arith in
-          let u = subst (λ z. IsUndecided n z all (length es) p.items) d (s.pass.undecided n (n + m) (length es) p.items
-              (subst (λ z. UndecidedAfter n (s.units + (n + m)) es z (length es) p.items) (sym e) (is_new, inl (refl, subst (λ z. SpentAfter (bodies (signature es)) n z p.items (infer_item (signature es) w)) b (spent_more (bodies (signature es)) n (n + m) s.units p.items (infer_item (signature es) w) h))))) in
-          rw (a, l) (s.units + m, u)
-      is_faulty i f.TooDeep (c.TooDeep j) g k (m, h) = let a = k ∙ g ∙ counted in rw a (s.units + m, verdict m (halts deep) tt h)
-      is_faulty i f.NoMemory c.NoMemory g k h = tt
-      is_faulty i (f.Refused p v) (c.Undecided j q) g k h = absurd k
-      is_faulty i (f.Refused p v) (c.Duplicate j l) g k h = absurd k
-      is_faulty i (f.Refused p v) (c.TooDeep j) g k h = absurd k
-      is_faulty i (f.Refused p v) c.NoMemory g k h = absurd k
-      is_faulty i (f.Undecided p) (c.Refused j q u) g k h = absurd k
-      is_faulty i (f.Undecided p) (c.Duplicate j l) g k h = absurd k
-      is_faulty i (f.Undecided p) (c.TooDeep j) g k h = absurd k
-      is_faulty i (f.Undecided p) c.NoMemory g k h = absurd k
-      is_faulty i f.TooDeep (c.Refused j q u) g k h = absurd k
-      is_faulty i f.TooDeep (c.Undecided j q) g k h = absurd k
-      is_faulty i f.TooDeep (c.Duplicate j l) g k h = absurd k
-      is_faulty i f.TooDeep c.NoMemory g k h = absurd k
-      is_faulty i f.NoMemory (c.Refused j q u) g k h = absurd k
-      is_faulty i f.NoMemory (c.Undecided j q) g k h = absurd k
-      is_faulty i f.NoMemory (c.Duplicate j l) g k h = absurd k
-      is_faulty i f.NoMemory (c.TooDeep j) g k h = absurd k
+  -- it has a new name, and is accepted
+  found_more : (q : List ℕ) → q ≡ name_of w → names q ≡ None → IsItemAnswer n es w (Ok tt) → Passed n (es ++ (w ∷ []))
+  found_more q named found (m, a, h) = one_more_passes n es w m a s.passed (new_is q named found) h
 
-      -- the item is accepted
-      pub advances : (a : Tree) (es' checked' : List Written) (names' : List ℕ → Option ℕ) → es' ≡ es ++ (w ∷ []) → checked' ≡ checked ++ (w ∷ []) → ((q : List ℕ) → names' q ≡ cond (bytes_eq (name_of w) q) (Some (length checked)) (names q))
-          → Meets es n (infer_item (signature es) w) (Ok a) → Standing all es' more checked' names'
-      unfolding Meets
-      advances a es' checked' names' g h k (m, y) =
-          let firm : (j : ℕ) → check_item (m + j) es w ≡ gives a = λ j. firm_more (bodies (signature es)) m j (infer_item (signature es) w) (gives a) tt y in
-          record {
-            units = s.units + m;
-            pass = rw g (later m firm);
-            done = h ∙ ap (λ z. z ++ (w ∷ [])) s.done ∙ sym g;
-            named = λ q. named_more q es w (names q) (names' q) is_new (s.named q) (k q ∙ ap (λ z. cond (bytes_eq (name_of w) q) (Some z) (names q)) counted) ∙ ap (first_of q) (sym g);
-            over = rw g ((subst (AreOver es) e s.over).1);
-          }
-        where
-          later : (m : ℕ) → ((j : ℕ) → check_item (m + j) es w ≡ gives a) → ItemsPass (s.units + m) (es ++ (w ∷ [])) more all
-          later m firm = record {
-            answers = λ j.
-                let q : s.units + (m + j) ≡ s.units + m + j = omega arith in
-                subst (λ z. check_items z all ≡ check_after z (es ++ (w ∷ [])) more) q (verdict (m + j) (gives a) tt (firm j));
-            undecided = λ d j i p u.
-                let q : s.units + m + j ≡ s.units + (m + j) = omega arith in
-                let v = subst (λ z. UndecidedAfter d z (es ++ (w ∷ [])) more i p) q u in
-                subst (λ z. IsUndecided d z all i p) (sym q)
-                (s.pass.undecided d (m + j) i p (subst (λ z. UndecidedAfter d (s.units + (m + j)) es z i p) (sym e) (is_new, inr ((a, item_stays (m + j) (gives a) tt (firm j)), v))));
-          }
+  pub advanced : (q : List ℕ) (es_new : List Written) (names_new : List ℕ → Option ℕ) → q ≡ name_of w → names q ≡ None → IsItemAnswer n es w (Ok tt) → es_new ≡ es ++ (w ∷ [])
+      → ((x : List ℕ) → names_new x ≡ cond (bytes_eq (name_of w) x) (Some (length es)) (names x)) → Standing n ws es_new more names_new
+  advanced q es_new names_new named found h grown step = subst (λ (l : List Written). Standing n ws l more names_new) (sym grown) (record {
+    whole = whole_is ∙ sym (append_assoc es (w ∷ []) more);
+    named = λ x. named_more x es w (names x) (names_new x) (new_is q named found) (s.named x) (step x);
+    over = over_is.1;
+    passed = found_more q named found h;
+  })
 
-  -- all were accepted
-  pub is_finished : rest ≡ [] → (i : ℕ) → i ≡ length all → IsAnswer n all (Ok (record { items = i }))
-  is_finished e i g = ((s.units + 0, s.pass.answers 0 ∙ ap (check_after (s.units + 0) es) e), g)
+pub finished : (n : ℕ) (ws es rest : List Written) (names : List ℕ → Option ℕ) (c : Checked) → Standing n ws es rest names → rest ≡ [] → c.items ≡ length es → IsAnswer n ws (Ok c)
+finished n ws es rest names c s e count =
+    let whole : ws ≡ es ++ [] = s.whole ∙ ap (λ (l : List Written). es ++ l) e in
+    let none : es ++ [] ≡ es = append-nil es in
+    (count ∙ ap length (sym none) ∙ ap length (sym whole), s.passed.units + 0, rw whole (s.passed.answers 0 []))

@@ -1,55 +1,77 @@
--- What an answer says of the verdict with the units given, and whether it is true.
-use Rattle.std.proofs.Common.{◌≡◌, ℕ, ◌+◌, List, Result, Ok, Err, refl, sym, subst, ◌∙◌, arith}
+-- What follows from what is answered.
+use Rattle.std.proofs.Common.{◌≡◌, ℕ, ◌+◌, List, length, Result, Ok, Err, IfOk, refl, sym, ap, subst, ◌∙◌, arith}
 use Rattle.cdle_model.specs.Forms.{Written}
-use Rattle.cdle_model.specs.Classes.{AreItems}
 use Rattle.cdle_model.specs.HeadForms.{deep}
-use Rattle.cdle_model.specs.Check.{ListVerdict, accepts, refuses, spends, ends, duplicate, check_items}
+use Rattle.cdle_model.specs.Classes.{AreItems}
+use Rattle.cdle_model.specs.Derivation.{signature, AreDerived}
+use Rattle.cdle_model.specs.Check.{infer_item, ListVerdict, accepts, refuses, spends, ends, duplicate, check_items}
 use Rattle.cdle_model.proofs.CheckLargerBudget.{list-stays}
 use Rattle.cdle_model.proofs.ItemsChecked.{accepted-derived, refused-lost, duplicate-lost}
 use Rattle.cdle_model.proofs.Undecided.{undecided-spent}
 use Rattle.core_tree.specs.declared.faults.Checked.{Checked}
 use Rattle.core_tree.specs.declared.faults.CoreFault.{CoreFault}
-use Rattle.core_tree.specs.declared.faults.CoreFault.TheVariants as c
-use Rattle.core_check.specs.Answer.{IsAnswer, IsTrue, Tells}
+use Rattle.core_tree.specs.declared.faults.CoreFault.TheVariants as fault
+use Rattle.core_check.specs.declared.fault.Fault.{Fault}
+use Rattle.core_check.specs.declared.fault.Fault.TheVariants as f
+use Rattle.core_check.specs.Questions.{Meets}
+use Rattle.core_check.specs.Answer.{IsAnswer, HaveNone, Agrees, IsItemAnswer, MeetsItem, IsOfItem}
 
-abbrev NotSpent : ListVerdict → Type 0
-NotSpent v = (i : ℕ) (p : List ℕ) → v ≡ spends i p → ⊥
+-- of one item
+pub item_found : (n : ℕ) (es : List Written) (w : Written) → MeetsItem es n (infer_item (signature es) w) (Ok tt) → IsItemAnswer n es w (Ok tt)
+unfolding Meets
+item_found n es w (a, (m, h)) = (m, a, h)
 
-module _ (ws : List Written) (n m : ℕ) (u : ListVerdict) (e : check_items m ws ≡ u) (h : NotSpent u) (r : Result Checked CoreFault) (t : Tells u r) where
-  -- two verdicts that are not spent are one
-  agree : (v : ListVerdict) → check_items n ws ≡ v → NotSpent v → Tells v r
-  agree v f g =
-      let a = list-stays m n ws u e h in
-      let b = list-stays n m ws v f g in
-      let q : n + m ≡ m + n = omega arith in
-      let same : u ≡ v = sym a ∙ subst (λ z. check_items z ws ≡ v) q b in subst (λ z. Tells z r) same t
+pub item_fault : (n : ℕ) (es : List Written) (w : Written) (i : ℕ) (e : Fault) (x : CoreFault) → i ≡ length es → IsOfItem i e x → MeetsItem es n (infer_item (signature es) w) (Err e) → IsItemAnswer n es w (Err x)
+unfolding Meets
+item_fault n es w i (f.Refused p why) (fault.Refused j q v) c o (r, h, k) = (o.0 ∙ c, h.units, r, rw o.1 h.is, rw o.2 k)
+item_fault n es w i (f.Undecided p) (fault.Undecided j q) c o (k, h) = (o.0 ∙ c, k, rw o.1 h)
+item_fault n es w i f.TooDeep (fault.TooDeep j) c o (m, h) = (o ∙ c, m, h)
+item_fault n es w i f.NoMemory fault.NoMemory c o h = tt
+item_fault n es w i e x c o h = absurd o
 
-  tells_by : (v : ListVerdict) → check_items n ws ≡ v → Tells v r
-  tells_by accepts f = agree accepts f (λ i p x. cc)
-  tells_by (refuses j q w) f = agree (refuses j q w) f (λ i p x. cc)
-  tells_by (ends j z) f = agree (ends j z) f (λ i p x. cc)
-  tells_by (duplicate j k) f = agree (duplicate j k) f (λ i p x. cc)
-  tells_by (spends j q) f = tt
+-- what is accepted has a derivation
+pub derived : (n : ℕ) (ws : List Written) (r : Result Checked CoreFault) → AreItems ws → IsAnswer n ws r → IfOk r (λ c. AreDerived ws)
+derived n ws (Ok c) h (count, m, e) = accepted-derived ws h m e
+derived n ws (Err f) h a = tt
 
-wanted : (v : ListVerdict) → Tells v (Err c.NoMemory)
-wanted accepts = tt
-wanted (refuses j q w) = tt
-wanted (ends j z) = tt
-wanted (duplicate j k) = tt
-wanted (spends j q) = tt
+-- what is refused has none
+pub none : (n : ℕ) (ws : List Written) (r : Result Checked CoreFault) → AreItems ws → IsAnswer n ws r → HaveNone ws r
+none n ws (Ok c) h a = tt
+none n ws (Err fault.NoMemory) h a = tt
+none n ws (Err (fault.Refused i path why)) h (m, r, e, k) = refused-lost ws h m i path r e
+none n ws (Err (fault.Duplicate i earlier)) h (m, e) = duplicate-lost ws h m i earlier e
+none n ws (Err (fault.Undecided i path)) h a = tt
+none n ws (Err (fault.TooDeep i)) h a = tt
 
-pub tells : (n : ℕ) (ws : List Written) (r : Result Checked CoreFault) → IsAnswer n ws r → Tells (check_items n ws) r
-tells n ws (Ok d) ((m, e), l) = tells_by ws n m accepts e (λ i p x. cc) (Ok d) tt (check_items n ws) refl
-tells n ws (Err (c.Refused i p w)) (m, r, e, h) = tells_by ws n m (refuses i p r) e (λ j q x. cc) (Err (c.Refused i p w)) (refl, refl, h) (check_items n ws) refl
-tells n ws (Err (c.Undecided i p)) (k, h) = let (j, q, e) = undecided-spent n k ws i p h in subst (λ z. Tells z (Err (c.Undecided i p))) (sym e) tt
-tells n ws (Err (c.Duplicate i k)) (m, e) = tells_by ws n m (duplicate i k) e (λ j q x. cc) (Err (c.Duplicate i k)) (refl, refl) (check_items n ws) refl
-tells n ws (Err (c.TooDeep i)) (m, e) = tells_by ws n m (ends i deep) e (λ j q x. cc) (Err (c.TooDeep i)) refl (check_items n ws) refl
-tells n ws (Err c.NoMemory) h = wanted (check_items n ws)
+-- where two budgets are not spent, they say the same
+IsFirm : ListVerdict → Type 0
+IsFirm v = (i : ℕ) (p : List ℕ) → v ≡ spends i p → ⊥
 
-pub is_true : (n : ℕ) (ws : List Written) (r : Result Checked CoreFault) → AreItems ws → IsAnswer n ws r → IsTrue ws r
-is_true n ws (Ok d) g ((m, e), l) = accepted-derived ws g m e
-is_true n ws (Err (c.Refused i p w)) g (m, r, e, h) = refused-lost ws g m i p r e
-is_true n ws (Err (c.Duplicate i k)) g (m, e) = duplicate-lost ws g m i k e
-is_true n ws (Err (c.Undecided i p)) g h = tt
-is_true n ws (Err (c.TooDeep i)) g h = tt
-is_true n ws (Err c.NoMemory) g h = tt
+settled : (n m : ℕ) (ws : List Written) (u v : ListVerdict) → check_items n ws ≡ u → IsFirm u → check_items m ws ≡ v → IsFirm v → u ≡ v
+unfolding IsFirm
+settled n m ws u v d x e y = let c : n + m ≡ m + n = omega arith in sym (list-stays n m ws u d x) ∙ ap (λ (k : ℕ). check_items k ws) c ∙ list-stays m n ws v e y
+
+agree : (n m : ℕ) (ws : List Written) (u v : ListVerdict) (r : Result Checked CoreFault) → check_items n ws ≡ u → check_items m ws ≡ v → IsFirm v → Agrees v r → Agrees u r
+unfolding IsFirm
+agree n m ws accepts v r d e y h = subst (λ (z : ListVerdict). Agrees z r) (sym (settled n m ws accepts v d (λ i p k. absurd cc) e y)) h
+agree n m ws (refuses i p w) v r d e y h = subst (λ (z : ListVerdict). Agrees z r) (sym (settled n m ws (refuses i p w) v d (λ j q k. absurd cc) e y)) h
+agree n m ws (ends i x) v r d e y h = subst (λ (z : ListVerdict). Agrees z r) (sym (settled n m ws (ends i x) v d (λ j q k. absurd cc) e y)) h
+agree n m ws (duplicate i j) v r d e y h = subst (λ (z : ListVerdict). Agrees z r) (sym (settled n m ws (duplicate i j) v d (λ k q l. absurd cc) e y)) h
+agree n m ws (spends i p) v r d e y h = tt
+
+no_memory : (v : ListVerdict) → Agrees v (Err fault.NoMemory)
+no_memory accepts = tt
+no_memory (refuses i p w) = tt
+no_memory (spends i p) = tt
+no_memory (ends i h) = tt
+no_memory (duplicate i j) = tt
+
+-- what is answered is what the plain check at this budget says, unless that is spent
+pub agrees : (n : ℕ) (ws : List Written) (r : Result Checked CoreFault) → IsAnswer n ws r → Agrees (check_items n ws) r
+unfolding IsFirm
+agrees n ws (Ok c) (count, m, e) = agree n m ws (check_items n ws) accepts (Ok c) refl e (λ i p k. absurd cc) tt
+agrees n ws (Err fault.NoMemory) a = no_memory (check_items n ws)
+agrees n ws (Err (fault.Refused i path why)) (m, r, e, k) = agree n m ws (check_items n ws) (refuses i path r) (Err (fault.Refused i path why)) refl e (λ j p l. absurd cc) (refl, refl, k)
+agrees n ws (Err (fault.Duplicate i earlier)) (m, e) = agree n m ws (check_items n ws) (duplicate i earlier) (Err (fault.Duplicate i earlier)) refl e (λ j p l. absurd cc) (refl, refl)
+agrees n ws (Err (fault.TooDeep i)) (m, e) = agree n m ws (check_items n ws) (ends i deep) (Err (fault.TooDeep i)) refl e (λ j p l. absurd cc) refl
+agrees n ws (Err (fault.Undecided i path)) (k, h) = let (j, p, e) = undecided-spent n k ws i path h in subst (λ (v : ListVerdict). Agrees v (Err (fault.Undecided i path))) (sym e) tt

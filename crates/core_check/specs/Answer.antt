@@ -1,50 +1,47 @@
--- What the checker answers, by the definitions' check of the list of items, with n units for each question.
-use Rattle.std.specs.Prelude.{◌≡◌, ℕ, suc, ◌+◌, List, take, length, Result, Ok, Err}
+-- What the checker answers, with n units for each comparison and each head form.
+use Rattle.std.specs.Prelude.{◌≡◌, ◌+◌, ℕ, suc, List, length, take, Result, Ok, Err}
 use Rattle.cdle_model.specs.Trees.{Tree}
 use Rattle.cdle_model.specs.Forms.{Written}
 use Rattle.cdle_model.specs.HeadForms.{deep}
-use Rattle.cdle_model.specs.Derivation.{AreDerived}
-use Rattle.cdle_model.specs.Check.{Reason, Questions, ListVerdict, accepts, refuses, spends, ends, duplicate, check_items, IsUndecided}
+use Rattle.cdle_model.specs.Derivation.{bodies, signature, AreDerived}
+use Rattle.cdle_model.specs.Check.{Reason, Questions, gives, refused, halts, infer_item, SpentAfter, ListVerdict, accepts, refuses, spends, ends, duplicate, check_item, check_items, IsUndecided}
 use Rattle.core_tree.specs.declared.faults.Checked.{Checked}
-use Rattle.core_tree.specs.declared.faults.Why.{Why}
 use Rattle.core_tree.specs.declared.faults.CoreFault.{CoreFault}
-use Rattle.core_tree.specs.declared.faults.CoreFault.TheVariants as c
+use Rattle.core_tree.specs.declared.faults.CoreFault.TheVariants as fault
 use Rattle.core_check.specs.declared.fault.Fault.{Fault}
 use Rattle.core_check.specs.declared.fault.Fault.TheVariants as f
 use Rattle.core_check.specs.Reasons.{IsWhy}
 use Rattle.core_check.specs.Questions.{Meets}
 
--- the definitions' check at some budget refuses item i at this path for the answered reason
-abbrev pub IsRefusedAt : List Written → ℕ → List ℕ → Why → Type 0
-IsRefusedAt ws i p w = (m : ℕ) × (r : Reason) × (check_items m ws ≡ refuses i p r) × IsWhy r w
+-- the fault is what the plain check at some budget says of these items; or it is undecided
+abbrev pub IsFaultOf : ℕ → List Written → CoreFault → Type 0
+IsFaultOf n ws fault.NoMemory = Unit {0}
+IsFaultOf n ws (fault.Refused i path why) = (m : ℕ) × (r : Reason) × (check_items m ws ≡ refuses i path r) × IsWhy r why
+IsFaultOf n ws (fault.Duplicate i earlier) = (m : ℕ) × (check_items m ws ≡ duplicate i earlier)
+IsFaultOf n ws (fault.Undecided i path) = (k : ℕ) × IsUndecided n (n + k) ws i path
+IsFaultOf n ws (fault.TooDeep i) = (m : ℕ) × (check_items m ws ≡ ends i deep)
 
--- each answer is that of the definitions' check at some budget; undecided, all before the place passes at some larger budget, and a question there is spent with n units
 abbrev pub IsAnswer : ℕ → List Written → Result Checked CoreFault → Type 0
-IsAnswer n ws (Ok c) = ((m : ℕ) × (check_items m ws ≡ accepts)) × (c.items ≡ length ws)
-IsAnswer n ws (Err (c.Refused i p w)) = IsRefusedAt ws i p w
-IsAnswer n ws (Err (c.Undecided i p)) = (k : ℕ) × IsUndecided n (n + k) ws i p
-IsAnswer n ws (Err (c.Duplicate i e)) = (m : ℕ) × (check_items m ws ≡ duplicate i e)
-IsAnswer n ws (Err (c.TooDeep i)) = (m : ℕ) × (check_items m ws ≡ ends i deep)
-IsAnswer n ws (Err c.NoMemory) = Unit {0}
+IsAnswer n ws (Ok c) = (c.items ≡ length ws) × (m : ℕ) × (check_items m ws ≡ accepts)
+IsAnswer n ws (Err e) = IsFaultOf n ws e
 
--- the answer tells this verdict; of a spent one it tells nothing
-abbrev pub Tells : ListVerdict → Result Checked CoreFault → Type 0
-Tells (spends i p) r = Unit {0}
-Tells v (Err c.NoMemory) = Unit {0}
-Tells accepts (Ok c) = Unit {0}
-Tells (refuses i p r) (Err (c.Refused j q w)) = (j ≡ i) × (q ≡ p) × IsWhy r w
-Tells (duplicate i e) (Err (c.Duplicate j f)) = (j ≡ i) × (f ≡ e)
-Tells (ends i h) (Err (c.TooDeep j)) = j ≡ i
-Tells v r = ⊥
+-- the items up to the one that is refused, or whose name is an earlier one's, have no derivation
+abbrev pub HaveNone : List Written → Result Checked CoreFault → Type 0
+HaveNone ws (Err (fault.Refused i path why)) = AreDerived (take (suc i) ws) → ⊥
+HaveNone ws (Err (fault.Duplicate i earlier)) = AreDerived (take (suc i) ws) → ⊥
+HaveNone ws r = Unit {0}
 
--- what is accepted has a derivation, and the items up to one that is refused have none
-abbrev pub IsTrue : List Written → Result Checked CoreFault → Type 0
-IsTrue ws (Ok c) = AreDerived ws
-IsTrue ws (Err (c.Refused i p w)) = AreDerived (take (suc i) ws) → ⊥
-IsTrue ws (Err (c.Duplicate i e)) = AreDerived (take (suc i) ws) → ⊥
-IsTrue ws (Err e) = Unit {0}
+-- the answer is the one that the verdict says; where its units are spent, it may be any
+abbrev pub Agrees : ListVerdict → Result Checked CoreFault → Type 0
+Agrees (spends i path) r = Unit {0}
+Agrees v (Err fault.NoMemory) = Unit {0}
+Agrees accepts (Ok c) = Unit {0}
+Agrees (refuses i path r) (Err (fault.Refused j found why)) = (j ≡ i) × (found ≡ path) × IsWhy r why
+Agrees (duplicate i earlier) (Err (fault.Duplicate j first)) = (j ≡ i) × (first ≡ earlier)
+Agrees (ends i h) (Err (fault.TooDeep j)) = j ≡ i
+Agrees v r = ⊥
 
--- ---- an item, and faults of an item
+-- ---- one item
 
 -- the questions of an item: something is found, or a fault
 abbrev pub MeetsItem : List Written → ℕ → Questions → Result (Unit {0}) Fault → Type 0
@@ -53,8 +50,17 @@ MeetsItem es n q (Err e) = Meets es n q (Err e)
 
 -- the second is the fault of item i
 abbrev pub IsOfItem : ℕ → Fault → CoreFault → Type 0
-IsOfItem i (f.Refused p w) (c.Refused j q v) = (j ≡ i) × (q ≡ p.items) × (v ≡ w)
-IsOfItem i (f.Undecided p) (c.Undecided j q) = (j ≡ i) × (q ≡ p.items)
-IsOfItem i f.TooDeep (c.TooDeep j) = j ≡ i
-IsOfItem i f.NoMemory c.NoMemory = Unit {0}
+IsOfItem i (f.Refused p w) (fault.Refused j q v) = (j ≡ i) × (q ≡ p.items) × (v ≡ w)
+IsOfItem i (f.Undecided p) (fault.Undecided j q) = (j ≡ i) × (q ≡ p.items)
+IsOfItem i f.TooDeep (fault.TooDeep j) = j ≡ i
+IsOfItem i f.NoMemory fault.NoMemory = Unit {0}
 IsOfItem i e x = ⊥
+
+-- what is said of one item over the items es, under its number
+abbrev pub IsItemAnswer : ℕ → List Written → Written → Result (Unit {0}) CoreFault → Type 0
+IsItemAnswer n es w (Ok u) = (m : ℕ) × (a : Tree) × (check_item m es w ≡ gives a)
+IsItemAnswer n es w (Err fault.NoMemory) = Unit {0}
+IsItemAnswer n es w (Err (fault.Refused i path why)) = (i ≡ length es) × (m : ℕ) × (r : Reason) × (check_item m es w ≡ refused path r) × IsWhy r why
+IsItemAnswer n es w (Err (fault.Undecided i path)) = (i ≡ length es) × (k : ℕ) × SpentAfter (bodies (signature es)) n (n + k) path (infer_item (signature es) w)
+IsItemAnswer n es w (Err (fault.TooDeep i)) = (i ≡ length es) × (m : ℕ) × (check_item m es w ≡ halts deep)
+IsItemAnswer n es w (Err (fault.Duplicate i earlier)) = ⊥

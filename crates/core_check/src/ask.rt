@@ -84,8 +84,8 @@ impl Rules<'_> {
         if self.same(Place::Part(part), &found, wanted)? {
             return Ok(());
         }
-        let found = found.tree_kind(self.alloc)?;
-        let wanted = wanted.tree_kind(self.alloc)?;
+        let found = found.tree_kind()?;
+        let wanted = wanted.tree_kind()?;
         Err(Fault::refusal(
             self.alloc,
             Place::Part(part),
@@ -118,11 +118,7 @@ impl Rules<'_> {
             Ok(parts) => Ok(parts),
             Err(value) => {
                 let head = value.tree_guide(self.alloc)?;
-                Err(Fault::refusal(
-                    self.alloc,
-                    Place::Part(part),
-                    other(former, head),
-                ))
+                Err(Fault::refusal(self.alloc, Place::Part(part), other(former, head)))
             }
         }
     }

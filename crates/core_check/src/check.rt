@@ -1,15 +1,14 @@
 //! The check of files, item by item.
-ghost use Rattle.std.specs.Prelude.{◌≡◌, ◌<◌, ◌++◌, IfErr, IfOk, length, map};
-ghost use Rattle.cdle_model.specs.Check.{check_items, infer_item};
+ghost use Rattle.std.specs.Prelude.{◌≡◌, ◌++◌, IfOk, map};
+ghost use Rattle.cdle_model.specs.Check.{check_items};
 ghost use Rattle.cdle_model.specs.Classes.{AreItems, IsOver};
-ghost use Rattle.cdle_model.specs.Derivation.{signature};
+ghost use Rattle.cdle_model.specs.Derivation.{AreDerived};
 ghost use Rattle.cdle_model.specs.Fitting.{ItemHasErasures};
 ghost use Rattle.core_tree.specs.Items.{written};
-ghost use Rattle.core_check.specs.Answer.{IsAnswer, IsTrue as IsTrueAnswer, MeetsItem, Tells};
+ghost use Rattle.core_check.specs.Answer.{Agrees, HaveNone, IsAnswer, IsItemAnswer};
 ghost use Rattle.core_check.specs.Items.{items_of};
 
 use crate::ask::Rules;
-use crate::fault::Fault;
 use core_reduce::CheckedItems;
 use core_tree::{Checked, CoreFault, CoreFile, CoreItem};
 use std::alloc::{AllocError, Global};
@@ -36,51 +35,36 @@ fn all_items<'a>(alloc: Global, files: &'a Vec<CoreFile>) -> Result<Vec<&'a Core
     Ok(items)
 }
 
-/// Checks an item over those before it.
+/// Checks the item that comes after the checked ones.
 fn check_item(
     alloc: Global,
-    items: &CheckedItems,
-    budget: u64,
+    checked: &CheckedItems,
     item: &CoreItem,
-) -> Result<(), Fault>
-    requires { IsOver items.now (written item.now) }
-    ensures meets { MeetsItem items.now budget (infer_item (signature items.now) (written item.now)) result }
+    budget: u64,
+) -> Result<(), CoreFault>
+    requires { IsOver checked.now (written item.now) }
+    ensures answer { IsItemAnswer budget checked.now (written item.now) result }
     ensures erasures { IfOk result (λ _. ItemHasErasures (written item.now)) }
 {
     let rules = Rules {
         alloc,
-        items,
+        items: checked,
         budget,
     };
-    rules.item(item)
+    match rules.item(item) {
+        Ok(()) => Ok(()),
+        Err(fault) => Err(fault.of_item(checked.len())),
+    }
 }
 
-/// Whether the items of the files, numbered from 0 over all of them, have a derivation by Core's rules, with so many units for each comparison
-/// and each head form. At the first item that is not accepted the answer tells why: an earlier item has its name, it breaks a rule, a question
-/// needs more units, or a tree would be deeper than 4,096.
-pub fn check_files(
-    alloc: Global,
-    files: &Vec<CoreFile>,
-    budget: u64,
-) -> Result<Checked, CoreFault>
-    requires items { AreItems (items_of files.now.items) }
-    requires few { length (items_of files.now.items) < 4294967295 }
-    ensures answer { IsAnswer budget (items_of files.now.items) result }
-    ensures so { Tells (check_items budget (items_of files.now.items)) result }
-    ensures is_true { IsTrueAnswer (items_of files.now.items) result }
+/// Checks the items in their order. A name that an earlier item has is found before its item is checked.
+fn check_all(alloc: Global, items: &[&CoreItem], budget: u64) -> Result<Checked, CoreFault>
+    requires { AreItems (map (λ item. written item.now) items.now) }
+    ensures { IsAnswer budget (map (λ item. written item.now) items.now) result }
 {
-    check_all(alloc, files, budget)
-}
-
-fn check_all(alloc: Global, files: &Vec<CoreFile>, budget: u64) -> Result<Checked, CoreFault>
-    requires items { AreItems (items_of files.now.items) }
-    requires few { length (items_of files.now.items) < 4294967295 }
-    ensures { IsAnswer budget (items_of files.now.items) result }
-{
-    let items = all_items(alloc, files)?;
     let mut checked = CheckedItems::new(alloc);
     let mut names: HashMap<String, u32> = HashMap::new(alloc);
-    for item in &items {
+    for item in items {
         let number = checked.len();
         let name = item.name().as_str();
         if let Some(earlier) = names.get(name) {
@@ -89,13 +73,24 @@ fn check_all(alloc: Global, files: &Vec<CoreFile>, budget: u64) -> Result<Checke
                 earlier: *earlier,
             });
         }
-        if let Err(fault) = check_item(alloc, &checked, budget, item) {
-            return Err(fault.of_item(number));
-        }
-        names.insert(String::from_str(alloc, name)?, number)?;
+        check_item(alloc, &checked, item, budget)?;
         checked.add(alloc, item)?;
+        names.insert(String::from_str(alloc, name)?, number)?;
     }
     Ok(Checked {
         items: checked.len(),
     })
+}
+
+/// Whether the items of the files, numbered from 0 over all of them, are accepted, with the budget for each comparison and each head form.
+/// At the first that is not: an earlier item has its name, or it breaks a rule, or the budget was spent, or a tree was too deep.
+pub fn check_files(alloc: Global, files: &Vec<CoreFile>, budget: u64) -> Result<Checked, CoreFault>
+    requires items { AreItems (items_of files.now.items) }
+    ensures answer { IsAnswer budget (items_of files.now.items) result }
+    ensures derived { IfOk result (λ _. AreDerived (items_of files.now.items)) }
+    ensures none { HaveNone (items_of files.now.items) result }
+    ensures so { Agrees (check_items budget (items_of files.now.items)) result }
+{
+    let items = all_items(alloc, files)?;
+    check_all(alloc, &items, budget)
 }

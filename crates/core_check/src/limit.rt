@@ -96,11 +96,11 @@ pub(crate) fn whole_type(alloc: Global, side: &Side) -> Result<Guide, Fault>
 }
 
 /// The kind for which a side stands, as one tree.
-fn whole_kind(alloc: Global, side: &Side) -> Result<GuideKind, Fault>
+fn whole_kind(side: &Side) -> Result<GuideKind, Fault>
     requires { side.now.class ≡ OfKind }
     ensures { IsLimited side.now.tree result }
 {
-    match side.tree_kind(alloc)? {
+    match side.tree_kind()? {
         Kept::Whole(kind) => Ok(kind),
         Kept::Deep => Err(Fault::TooDeep),
     }
@@ -156,7 +156,7 @@ pub(crate) fn put_term_in_kind(alloc: Global, kind: &Side, term: &Pure) -> Resul
     requires below { IsBelow 4290000000 term.now }
     ensures { IsLimited (put 0 term.now kind.now.tree) result }
 {
-    let kind = whole_kind(alloc, kind)?;
+    let kind = whole_kind(kind)?;
     Ok(kind.put_pure(alloc, 0, term)?)
 }
 
@@ -167,7 +167,7 @@ pub(crate) fn put_type_in_kind(alloc: Global, kind: &Side, arg: &Guide) -> Resul
     requires below { IsBelow 4290000000 arg.now }
     ensures { IsLimited (put 0 arg.now kind.now.tree) result }
 {
-    let kind = whole_kind(alloc, kind)?;
+    let kind = whole_kind(kind)?;
     Ok(kind.put_guide(alloc, 0, arg)?)
 }
 
