@@ -19,7 +19,6 @@ use std::alloc::Global;
 pub(crate) fn checked(alloc: Global, files: &Vec<CoreFile>, budget: u64) -> Result<Done, NoMemory>
     requires items { AreItems (items_of files.now.items) }
     requires few { length (items_of files.now.items) ≤ most_items }
-    requires budget { budget ≤ 10000000 }
     ensures verdict { IfOk result (λ done. IsVerdict budget (items_of files.now.items) done.outcome) }
     ensures report { IfOk result (IsReported []) }
 {
