@@ -6,3 +6,6 @@ pub mod Found
 pub mod Looked
 pub mod Known
 pub mod Placed
+pub mod Lists
+pub mod Standing
+pub mod Verdicts

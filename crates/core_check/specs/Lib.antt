@@ -3,3 +3,5 @@ pub mod Faults
 pub mod Context
 pub mod Questions
 pub mod Formers
+pub mod Items
+pub mod Answer

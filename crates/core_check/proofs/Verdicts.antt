@@ -1,0 +1,72 @@
+-- What follows from what is answered.
+use Rattle.std.proofs.Common.{◌≡◌, ℕ, ◌+◌, List, length, Result, Ok, Err, IfOk, refl, sym, ap, subst, ◌∙◌, arith}
+use Rattle.cdle_model.specs.Forms.{Written}
+use Rattle.cdle_model.specs.HeadForms.{deep}
+use Rattle.cdle_model.specs.Classes.{AreItems}
+use Rattle.cdle_model.specs.Derivation.{AreDerived}
+use Rattle.cdle_model.specs.Check.{ListVerdict, accepts, refuses, spends, ends, duplicate, check_items}
+use Rattle.cdle_model.proofs.CheckLargerBudget.{list-stays}
+use Rattle.cdle_model.proofs.ItemsChecked.{accepted-derived, refused-lost, duplicate-lost}
+use Rattle.cdle_model.proofs.Undecided.{undecided-spent}
+use Rattle.core_tree.specs.declared.faults.Checked.{Checked}
+use Rattle.core_tree.specs.declared.faults.CoreFault.{CoreFault}
+use Rattle.core_tree.specs.declared.faults.CoreFault.TheVariants as fault
+use Rattle.core_check.specs.declared.fault.Fault.{Fault}
+use Rattle.core_check.specs.declared.fault.Fault.TheVariants as f
+use Rattle.core_check.specs.Questions.{Meets, MeetsItem}
+use Rattle.core_check.specs.Answer.{IsAnswer, HaveNone, Agrees, IsItemAnswer, fault_of_item}
+
+-- of one item
+pub item_answer : (n : ℕ) (es : List Written) (w : Written) (i : ℕ) (e : Fault) → i ≡ length es → MeetsItem es n w (Err e) → IsItemAnswer n es w (Err (fault_of_item i e))
+unfolding Meets
+item_answer n es w i (f.Refused p why) c (r, h, k) = (c, h.units, r, h.is, k)
+item_answer n es w i (f.Undecided p) c (k, h) = (c, k, h)
+item_answer n es w i f.TooDeep c (m, h) = (c, m, h)
+item_answer n es w i f.NoMemory c h = tt
+
+-- what is accepted has a derivation
+pub derived : (n : ℕ) (ws : List Written) (r : Result Checked CoreFault) → AreItems ws → IsAnswer n ws r → IfOk r (λ c. AreDerived ws)
+derived n ws (Ok c) h (count, m, e) = accepted-derived ws h m e
+derived n ws (Err f) h a = tt
+
+-- what is refused has none
+pub none : (n : ℕ) (ws : List Written) (r : Result Checked CoreFault) → AreItems ws → IsAnswer n ws r → HaveNone ws r
+none n ws (Ok c) h a = tt
+none n ws (Err fault.NoMemory) h a = tt
+none n ws (Err (fault.Refused i path why)) h (m, r, e, k) = refused-lost ws h m i path r e
+none n ws (Err (fault.Duplicate i earlier)) h (m, e) = duplicate-lost ws h m i earlier e
+none n ws (Err (fault.Undecided i path)) h a = tt
+none n ws (Err (fault.TooDeep i)) h a = tt
+
+-- where two budgets are not spent, they say the same
+IsFirm : ListVerdict → Type 0
+IsFirm v = (i : ℕ) (p : List ℕ) → v ≡ spends i p → ⊥
+
+settled : (n m : ℕ) (ws : List Written) (u v : ListVerdict) → check_items n ws ≡ u → IsFirm u → check_items m ws ≡ v → IsFirm v → u ≡ v
+unfolding IsFirm
+settled n m ws u v d x e y = let c : n + m ≡ m + n = omega arith in sym (list-stays n m ws u d x) ∙ ap (λ (k : ℕ). check_items k ws) c ∙ list-stays m n ws v e y
+
+agree : (n m : ℕ) (ws : List Written) (u v : ListVerdict) (r : Result Checked CoreFault) → check_items n ws ≡ u → check_items m ws ≡ v → IsFirm v → Agrees v r → Agrees u r
+unfolding IsFirm
+agree n m ws accepts v r d e y h = subst (λ (z : ListVerdict). Agrees z r) (sym (settled n m ws accepts v d (λ i p k. absurd cc) e y)) h
+agree n m ws (refuses i p w) v r d e y h = subst (λ (z : ListVerdict). Agrees z r) (sym (settled n m ws (refuses i p w) v d (λ j q k. absurd cc) e y)) h
+agree n m ws (ends i x) v r d e y h = subst (λ (z : ListVerdict). Agrees z r) (sym (settled n m ws (ends i x) v d (λ j q k. absurd cc) e y)) h
+agree n m ws (duplicate i j) v r d e y h = subst (λ (z : ListVerdict). Agrees z r) (sym (settled n m ws (duplicate i j) v d (λ k q l. absurd cc) e y)) h
+agree n m ws (spends i p) v r d e y h = tt
+
+no_memory : (v : ListVerdict) → Agrees v (Err fault.NoMemory)
+no_memory accepts = tt
+no_memory (refuses i p w) = tt
+no_memory (spends i p) = tt
+no_memory (ends i h) = tt
+no_memory (duplicate i j) = tt
+
+-- what is answered is what the plain check at this budget says, unless that is spent
+pub agrees : (n : ℕ) (ws : List Written) (r : Result Checked CoreFault) → IsAnswer n ws r → Agrees (check_items n ws) r
+unfolding IsFirm
+agrees n ws (Ok c) (count, m, e) = agree n m ws (check_items n ws) accepts (Ok c) refl e (λ i p k. absurd cc) tt
+agrees n ws (Err fault.NoMemory) a = no_memory (check_items n ws)
+agrees n ws (Err (fault.Refused i path why)) (m, r, e, k) = agree n m ws (check_items n ws) (refuses i path r) (Err (fault.Refused i path why)) refl e (λ j p l. absurd cc) (refl, refl, k)
+agrees n ws (Err (fault.Duplicate i earlier)) (m, e) = agree n m ws (check_items n ws) (duplicate i earlier) (Err (fault.Duplicate i earlier)) refl e (λ j p l. absurd cc) (refl, refl)
+agrees n ws (Err (fault.TooDeep i)) (m, e) = agree n m ws (check_items n ws) (ends i deep) (Err (fault.TooDeep i)) refl e (λ j p l. absurd cc) refl
+agrees n ws (Err (fault.Undecided i path)) (k, h) = let (j, p, e) = undecided-spent n k ws i path h in subst (λ (v : ListVerdict). Agrees v (Err (fault.Undecided i path))) (sym e) tt

@@ -1,0 +1,59 @@
+-- What the checker answers, with n units for each comparison and each head form.
+use Rattle.std.specs.Prelude.{◌≡◌, ◌+◌, ℕ, suc, List, length, take, Result, Ok, Err}
+use Rattle.cdle_model.specs.Trees.{Tree}
+use Rattle.cdle_model.specs.Forms.{Written}
+use Rattle.cdle_model.specs.HeadForms.{deep}
+use Rattle.cdle_model.specs.Derivation.{bodies, signature, AreDerived}
+use Rattle.cdle_model.specs.Check.{Reason, gives, refused, halts, infer_item, SpentAfter, ListVerdict, accepts, refuses, spends, ends, duplicate, check_item, check_items, IsUndecided}
+use Rattle.core_tree.specs.declared.faults.Checked.{Checked}
+use Rattle.core_tree.specs.declared.faults.CoreFault.{CoreFault}
+use Rattle.core_tree.specs.declared.faults.CoreFault.TheVariants as fault
+use Rattle.core_check.specs.declared.fault.Fault.{Fault}
+use Rattle.core_check.specs.declared.fault.Fault.TheVariants as f
+use Rattle.core_check.specs.Reasons.{IsWhy}
+
+-- the fault is what the plain check at some budget says of these items; or it is undecided
+abbrev pub IsFaultOf : ℕ → List Written → CoreFault → Type 0
+IsFaultOf n ws fault.NoMemory = Unit {0}
+IsFaultOf n ws (fault.Refused i path why) = (m : ℕ) × (r : Reason) × (check_items m ws ≡ refuses i path r) × IsWhy r why
+IsFaultOf n ws (fault.Duplicate i earlier) = (m : ℕ) × (check_items m ws ≡ duplicate i earlier)
+IsFaultOf n ws (fault.Undecided i path) = (k : ℕ) × IsUndecided n (n + k) ws i path
+IsFaultOf n ws (fault.TooDeep i) = (m : ℕ) × (check_items m ws ≡ ends i deep)
+
+abbrev pub IsAnswer : ℕ → List Written → Result Checked CoreFault → Type 0
+IsAnswer n ws (Ok c) = (c.items ≡ length ws) × (m : ℕ) × (check_items m ws ≡ accepts)
+IsAnswer n ws (Err e) = IsFaultOf n ws e
+
+-- the items up to the one that is refused, or whose name is an earlier one's, have no derivation
+abbrev pub HaveNone : List Written → Result Checked CoreFault → Type 0
+HaveNone ws (Err (fault.Refused i path why)) = AreDerived (take (suc i) ws) → ⊥
+HaveNone ws (Err (fault.Duplicate i earlier)) = AreDerived (take (suc i) ws) → ⊥
+HaveNone ws r = Unit {0}
+
+-- the answer is the one that the verdict says; where its units are spent, it may be any
+abbrev pub Agrees : ListVerdict → Result Checked CoreFault → Type 0
+Agrees (spends i path) r = Unit {0}
+Agrees v (Err fault.NoMemory) = Unit {0}
+Agrees accepts (Ok c) = Unit {0}
+Agrees (refuses i path r) (Err (fault.Refused j found why)) = (j ≡ i) × (found ≡ path) × IsWhy r why
+Agrees (duplicate i earlier) (Err (fault.Duplicate j first)) = (j ≡ i) × (first ≡ earlier)
+Agrees (ends i h) (Err (fault.TooDeep j)) = j ≡ i
+Agrees v r = ⊥
+
+-- ---- one item
+
+-- the fault, as that of the item of this number
+abbrev pub fault_of_item : ℕ → Fault → CoreFault
+fault_of_item i (f.Refused p why) = fault.Refused i p.items why
+fault_of_item i (f.Undecided p) = fault.Undecided i p.items
+fault_of_item i f.TooDeep = fault.TooDeep i
+fault_of_item i f.NoMemory = fault.NoMemory
+
+-- what is said of one item over the items es, under its number
+abbrev pub IsItemAnswer : ℕ → List Written → Written → Result (Unit {0}) CoreFault → Type 0
+IsItemAnswer n es w (Ok u) = (m : ℕ) × (a : Tree) × (check_item m es w ≡ gives a)
+IsItemAnswer n es w (Err fault.NoMemory) = Unit {0}
+IsItemAnswer n es w (Err (fault.Refused i path why)) = (i ≡ length es) × (m : ℕ) × (r : Reason) × (check_item m es w ≡ refused path r) × IsWhy r why
+IsItemAnswer n es w (Err (fault.Undecided i path)) = (i ≡ length es) × (k : ℕ) × SpentAfter (bodies (signature es)) n (n + k) path (infer_item (signature es) w)
+IsItemAnswer n es w (Err (fault.TooDeep i)) = (i ≡ length es) × (m : ℕ) × (check_item m es w ≡ halts deep)
+IsItemAnswer n es w (Err (fault.Duplicate i earlier)) = ⊥
