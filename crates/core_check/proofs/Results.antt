@@ -8,12 +8,12 @@ use Rattle.cdle_model.specs.Machine.{answered, spent}
 use Rattle.cdle_model.specs.HeadForms.{deep, deepest, value, no_value, head_form}
 use Rattle.cdle_model.specs.Comparison.{same, apart, halted, compare}
 use Rattle.cdle_model.specs.Derivation.{bodies, signature}
-use Rattle.cdle_model.specs.Check.{Reason, Finding, gives, refused, halts, Questions, refuse, ask_same, ask_head, at_part, unless_deep, limited, by_answer, by_head, answer}
+use Rattle.cdle_model.specs.Check.{Reason, Finding, gives, refused, halts, Questions, finds, refuse, ask_same, ask_head, at_part, unless_deep, limited, by_answer, by_head, answer}
 use Rattle.core_check.specs.declared.fault.Fault.{Fault}
 use Rattle.core_check.specs.declared.fault.Fault.TheVariants as f
 use Rattle.core_check.specs.Reasons.{IsWhy}
 use Rattle.core_check.specs.Faults.{IsInside, IsRefusal, IsSpent, IsLimited}
-use Rattle.core_check.specs.Questions.{IsRefused, Meets, Leads, Finds}
+use Rattle.core_check.specs.Questions.{Meets, Leads}
 use Rattle.core_check.proofs.Passing.{Passes, inside, answer_part, IsFirm, firm_more, spent_more, spent_inside, passes_part, passes_same, passes_head}
 
 module _ (es : List Written) (n : ℕ) where
@@ -104,14 +104,20 @@ module _ (es : List Written) (n : ℕ) where
   unfolding Meets
   head_deep p a k m left g = (m, ap (λ z. by_head p z (λ b. answer (bodies (signature es)) m (k b))) g)
 
-  -- trees that may be too deep
-  pub limited_finds : (a : Tree) (r : Result Tree Fault) → IsLimited a r → Finds es n (λ k. unless_deep a (k a)) r
+  pub finds_meets : (a : Tree) → Meets es n (finds a) (Ok a)
   unfolding Meets
-  limited_finds a (Ok b) (g, l) = λ k r h. let e : ltb deepest (depth a) ≡ false = le-ltb deepest (depth a) l in rw e (subst (λ z. Meets es n (k z) r) g h)
-  limited_finds a (Err f.TooDeep) l = λ k. let e : ltb deepest (depth a) ≡ true = lt-ltb deepest (depth a) l in rw e (0, refl)
-  limited_finds a (Err f.NoMemory) l = λ k. tt
-  limited_finds a (Err (f.Refused p w)) l = absurd l
-  limited_finds a (Err (f.Undecided p)) l = absurd l
+  finds_meets a = (0, refl)
+
+  -- trees that may be too deep
+  pub leads_low : (a : Tree) (q : Questions) → depth a ≤ 4096 → Leads es n (unless_deep a q) q
+  leads_low a q l r h = let e : ltb deepest (depth a) ≡ false = le-ltb deepest (depth a) l in rw e h
+
+  pub limited_fault : (a : Tree) (e : Fault) (q : Questions) → IsLimited a (Err e) → Meets es n (unless_deep a q) (Err e)
+  unfolding Meets
+  limited_fault a f.TooDeep q l = let e : ltb deepest (depth a) ≡ true = lt-ltb deepest (depth a) l in rw e (0, refl)
+  limited_fault a f.NoMemory q l = tt
+  limited_fault a (f.Refused p w) q l = absurd l
+  limited_fault a (f.Undecided p) q l = absurd l
 
   pub limited_meets : (a : Tree) (r : Result Tree Fault) → IsLimited a r → Meets es n (limited a) r
   unfolding Meets

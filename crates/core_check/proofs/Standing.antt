@@ -7,11 +7,9 @@ use Rattle.cdle_model.specs.Trees.{Tree}
 use Rattle.cdle_model.specs.Forms.{Written, name_of}
 use Rattle.cdle_model.specs.HeadForms.{deep}
 use Rattle.cdle_model.specs.Classes.{IsOver, AreOver, AreItems}
-use Rattle.cdle_model.specs.Fitting.{ItemHasErasures, HaveErasures}
 use Rattle.cdle_model.specs.Derivation.{bodies, signature}
 use Rattle.cdle_model.specs.FirstCheck.{first_of}
-use Rattle.cdle_model.specs.Check.{Finding, gives, refused, halts, infer_item, accepts, by_name, by_finding, check_item, check_after, check_items, SpentAfter, UndecidedAfter, IsUndecided}
-use Rattle.cdle_model.proofs.ClassItems.{accepted-erasures}
+use Rattle.cdle_model.specs.Check.{Finding, gives, refused, halts, infer_item, by_name, by_finding, check_item, check_after, check_items, SpentAfter, UndecidedAfter, IsUndecided}
 use Rattle.core_tree.specs.declared.faults.Checked.{Checked}
 use Rattle.core_tree.specs.declared.faults.CoreFault.{CoreFault}
 use Rattle.core_tree.specs.declared.faults.CoreFault.TheVariants as fault
@@ -81,16 +79,6 @@ one_more_passes n es w m a p new e = record {
       rw (c, append_assoc es (w ∷ []) ws) (p.undecided (m + k) (w ∷ ws) i r (new, inr ((a, finding_more es w (m + k) p.units (gives a) tt (firm_more (bodies (signature es)) m k (infer_item (signature es) w) (gives a) tt e)), subst (λ (z : ℕ). UndecidedAfter n z (es ++ (w ∷ [])) ws i r) c h)));
 }
 
--- ---- erasures
-
-over_front : (xs bs cs : List Written) → AreOver xs (bs ++ cs) → AreOver xs bs
-over_front xs [] cs h = tt
-over_front xs (w ∷ bs) cs h = (h.0, over_front (xs ++ (w ∷ [])) bs cs h.1)
-
-last_has : (es : List Written) (w : Written) → HaveErasures (es ++ (w ∷ [])) → ItemHasErasures w
-last_has [] w h = h.0
-last_has (e ∷ es) w h = last_has es w h.1
-
 -- ---- the check so far
 
 -- after the items `es`, before the items `rest`: the earlier items have these names and pass
@@ -143,14 +131,6 @@ module _ (n : ℕ) (ws es rest : List Written) (names : List ℕ → Option ℕ)
   -- it has a new name, and is accepted
   found_more : (q : List ℕ) → q ≡ name_of w → names q ≡ None → IsItemAnswer n es w (Ok tt) → Passed n (es ++ (w ∷ []))
   found_more q named found (m, a, h) = one_more_passes n es w m a s.passed (new_is q named found) h
-
-  pub has_erasures : (q : List ℕ) → q ≡ name_of w → names q ≡ None → IsItemAnswer n es w (Ok tt) → AreItems ws → ItemHasErasures w
-  has_erasures q named found h are =
-      let p = found_more q named found h in
-      let split : ws ≡ (es ++ (w ∷ [])) ++ more = whole_is ∙ sym (append_assoc es (w ∷ []) more) in
-      let front = over_front [] (es ++ (w ∷ [])) more (subst AreItems split are) in
-      let accepted : check_items (p.units + 0) (es ++ (w ∷ [])) ≡ accepts = ap (check_items (p.units + 0)) (sym (append-nil (es ++ (w ∷ [])))) ∙ p.answers 0 [] in
-      last_has es w (accepted-erasures (es ++ (w ∷ [])) front (p.units + 0) accepted)
 
   pub advanced : (q : List ℕ) (es_new : List Written) (names_new : List ℕ → Option ℕ) → q ≡ name_of w → names q ≡ None → IsItemAnswer n es w (Ok tt) → es_new ≡ es ++ (w ∷ [])
       → ((x : List ℕ) → names_new x ≡ cond (bytes_eq (name_of w) x) (Some (length es)) (names x)) → Standing n ws es_new more names_new

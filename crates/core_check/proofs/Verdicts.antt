@@ -3,8 +3,8 @@ use Rattle.std.proofs.Common.{◌≡◌, ℕ, ◌+◌, List, length, Result, Ok,
 use Rattle.cdle_model.specs.Forms.{Written}
 use Rattle.cdle_model.specs.HeadForms.{deep}
 use Rattle.cdle_model.specs.Classes.{AreItems}
-use Rattle.cdle_model.specs.Derivation.{AreDerived}
-use Rattle.cdle_model.specs.Check.{ListVerdict, accepts, refuses, spends, ends, duplicate, check_items}
+use Rattle.cdle_model.specs.Derivation.{signature, AreDerived}
+use Rattle.cdle_model.specs.Check.{infer_item, ListVerdict, accepts, refuses, spends, ends, duplicate, check_items}
 use Rattle.cdle_model.proofs.CheckLargerBudget.{list-stays}
 use Rattle.cdle_model.proofs.ItemsChecked.{accepted-derived, refused-lost, duplicate-lost}
 use Rattle.cdle_model.proofs.Undecided.{undecided-spent}
@@ -13,16 +13,21 @@ use Rattle.core_tree.specs.declared.faults.CoreFault.{CoreFault}
 use Rattle.core_tree.specs.declared.faults.CoreFault.TheVariants as fault
 use Rattle.core_check.specs.declared.fault.Fault.{Fault}
 use Rattle.core_check.specs.declared.fault.Fault.TheVariants as f
-use Rattle.core_check.specs.Questions.{Meets, MeetsItem}
-use Rattle.core_check.specs.Answer.{IsAnswer, HaveNone, Agrees, IsItemAnswer, fault_of_item}
+use Rattle.core_check.specs.Questions.{Meets}
+use Rattle.core_check.specs.Answer.{IsAnswer, HaveNone, Agrees, IsItemAnswer, MeetsItem, IsOfItem}
 
 -- of one item
-pub item_answer : (n : ℕ) (es : List Written) (w : Written) (i : ℕ) (e : Fault) → i ≡ length es → MeetsItem es n w (Err e) → IsItemAnswer n es w (Err (fault_of_item i e))
+pub item_found : (n : ℕ) (es : List Written) (w : Written) → MeetsItem es n (infer_item (signature es) w) (Ok tt) → IsItemAnswer n es w (Ok tt)
 unfolding Meets
-item_answer n es w i (f.Refused p why) c (r, h, k) = (c, h.units, r, h.is, k)
-item_answer n es w i (f.Undecided p) c (k, h) = (c, k, h)
-item_answer n es w i f.TooDeep c (m, h) = (c, m, h)
-item_answer n es w i f.NoMemory c h = tt
+item_found n es w (a, (m, h)) = (m, a, h)
+
+pub item_fault : (n : ℕ) (es : List Written) (w : Written) (i : ℕ) (e : Fault) (x : CoreFault) → i ≡ length es → IsOfItem i e x → MeetsItem es n (infer_item (signature es) w) (Err e) → IsItemAnswer n es w (Err x)
+unfolding Meets
+item_fault n es w i (f.Refused p why) (fault.Refused j q v) c o (r, h, k) = (o.0 ∙ c, h.units, r, rw o.1 h.is, rw o.2 k)
+item_fault n es w i (f.Undecided p) (fault.Undecided j q) c o (k, h) = (o.0 ∙ c, k, rw o.1 h)
+item_fault n es w i f.TooDeep (fault.TooDeep j) c o (m, h) = (o ∙ c, m, h)
+item_fault n es w i f.NoMemory fault.NoMemory c o h = tt
+item_fault n es w i e x c o h = absurd o
 
 -- what is accepted has a derivation
 pub derived : (n : ℕ) (ws : List Written) (r : Result Checked CoreFault) → AreItems ws → IsAnswer n ws r → IfOk r (λ c. AreDerived ws)

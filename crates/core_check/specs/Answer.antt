@@ -4,13 +4,14 @@ use Rattle.cdle_model.specs.Trees.{Tree}
 use Rattle.cdle_model.specs.Forms.{Written}
 use Rattle.cdle_model.specs.HeadForms.{deep}
 use Rattle.cdle_model.specs.Derivation.{bodies, signature, AreDerived}
-use Rattle.cdle_model.specs.Check.{Reason, gives, refused, halts, infer_item, SpentAfter, ListVerdict, accepts, refuses, spends, ends, duplicate, check_item, check_items, IsUndecided}
+use Rattle.cdle_model.specs.Check.{Reason, Questions, gives, refused, halts, infer_item, SpentAfter, ListVerdict, accepts, refuses, spends, ends, duplicate, check_item, check_items, IsUndecided}
 use Rattle.core_tree.specs.declared.faults.Checked.{Checked}
 use Rattle.core_tree.specs.declared.faults.CoreFault.{CoreFault}
 use Rattle.core_tree.specs.declared.faults.CoreFault.TheVariants as fault
 use Rattle.core_check.specs.declared.fault.Fault.{Fault}
 use Rattle.core_check.specs.declared.fault.Fault.TheVariants as f
 use Rattle.core_check.specs.Reasons.{IsWhy}
+use Rattle.core_check.specs.Questions.{Meets}
 
 -- the fault is what the plain check at some budget says of these items; or it is undecided
 abbrev pub IsFaultOf : ℕ → List Written → CoreFault → Type 0
@@ -42,12 +43,18 @@ Agrees v r = ⊥
 
 -- ---- one item
 
--- the fault, as that of the item of this number
-abbrev pub fault_of_item : ℕ → Fault → CoreFault
-fault_of_item i (f.Refused p why) = fault.Refused i p.items why
-fault_of_item i (f.Undecided p) = fault.Undecided i p.items
-fault_of_item i f.TooDeep = fault.TooDeep i
-fault_of_item i f.NoMemory = fault.NoMemory
+-- the questions of an item: something is found, or a fault
+abbrev pub MeetsItem : List Written → ℕ → Questions → Result (Unit {0}) Fault → Type 0
+MeetsItem es n q (Ok _) = (a : Tree) × Meets es n q (Ok a)
+MeetsItem es n q (Err e) = Meets es n q (Err e)
+
+-- the second is the fault of item i
+abbrev pub IsOfItem : ℕ → Fault → CoreFault → Type 0
+IsOfItem i (f.Refused p w) (fault.Refused j q v) = (j ≡ i) × (q ≡ p.items) × (v ≡ w)
+IsOfItem i (f.Undecided p) (fault.Undecided j q) = (j ≡ i) × (q ≡ p.items)
+IsOfItem i f.TooDeep (fault.TooDeep j) = j ≡ i
+IsOfItem i f.NoMemory fault.NoMemory = Unit {0}
+IsOfItem i e x = ⊥
 
 -- what is said of one item over the items es, under its number
 abbrev pub IsItemAnswer : ℕ → List Written → Written → Result (Unit {0}) CoreFault → Type 0

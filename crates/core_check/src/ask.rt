@@ -20,6 +20,7 @@ use core_tree::{Guide, GuideKind, Kept, Why};
 use std::alloc::Global;
 
 /// The items so far, over which Core's rules are read, and the budget of each question.
+#[derive(Drop)]
 pub(crate) struct Rules<'a> {
     pub(crate) alloc: Global,
     pub(crate) items: &'a CheckedItems,
@@ -42,7 +43,7 @@ impl Rules<'_> {
     }
 
     /// The head form of a side.
-    fn head(&self, place: Place, side: &Side) -> Result<Value, Fault>
+    pub(crate) fn head(&self, place: Place, side: &Side) -> Result<Value, Fault>
         requires { IsPlaced 4250000000 (item_sorts self.now.items.now) (class_trees side.now.class) side.now.tree }
         ensures { MeetsHeadForm self.now.items.now self.now.budget (path_of place) side.now.class side.now.tree result }
     {
@@ -185,7 +186,7 @@ fn other(former: Former, head: Kept<Guide>) -> Why
 }
 
 /// The two parts of a value of this form, or the value, where it is of another.
-fn split(former: Former, value: Value) -> Result<(Side, Side), Value>
+pub(crate) fn split(former: Former, value: Value) -> Result<(Side, Side), Value>
     requires two { length (former_parts former) ≡ 2 }
     requires class { IsValueOf (former_class former) value }
     ensures { IsSplit former value result }

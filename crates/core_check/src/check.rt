@@ -3,14 +3,14 @@ ghost use Rattle.std.specs.Prelude.{◌≡◌, ◌++◌, IfOk, map};
 ghost use Rattle.cdle_model.specs.Check.{check_items};
 ghost use Rattle.cdle_model.specs.Classes.{AreItems, IsOver};
 ghost use Rattle.cdle_model.specs.Derivation.{AreDerived};
+ghost use Rattle.cdle_model.specs.Fitting.{ItemHasErasures};
 ghost use Rattle.core_tree.specs.Items.{written};
-ghost use Rattle.core_check.specs.Answer.{Agrees, HaveNone, IsAnswer, IsItemAnswer, fault_of_item};
+ghost use Rattle.core_check.specs.Answer.{Agrees, HaveNone, IsAnswer, IsItemAnswer};
 ghost use Rattle.core_check.specs.Items.{items_of};
 
 use crate::ask::Rules;
-use crate::fault::Fault;
 use core_reduce::CheckedItems;
-use core_tree::{Checked, CoreFault, CoreFile, CoreItem, Path};
+use core_tree::{Checked, CoreFault, CoreFile, CoreItem};
 use std::alloc::{AllocError, Global};
 use std::collections::HashMap;
 
@@ -35,25 +35,6 @@ fn all_items<'a>(alloc: Global, files: &'a Vec<CoreFile>) -> Result<Vec<&'a Core
     Ok(items)
 }
 
-/// The fault, as that of the item of this number.
-fn in_item(item: u32, fault: Fault) -> CoreFault
-    ensures { result ≡ fault_of_item item fault }
-{
-    match fault {
-        Fault::Refused { path, why } => CoreFault::Refused {
-            item,
-            path: Path::new(path),
-            why,
-        },
-        Fault::Undecided { path } => CoreFault::Undecided {
-            item,
-            path: Path::new(path),
-        },
-        Fault::TooDeep => CoreFault::TooDeep { item },
-        Fault::NoMemory => CoreFault::NoMemory,
-    }
-}
-
 /// Checks the item that comes after the checked ones.
 fn check_item(
     alloc: Global,
@@ -62,7 +43,8 @@ fn check_item(
     budget: u64,
 ) -> Result<(), CoreFault>
     requires { IsOver checked.now (written item.now) }
-    ensures { IsItemAnswer budget checked.now (written item.now) result }
+    ensures answer { IsItemAnswer budget checked.now (written item.now) result }
+    ensures erasures { IfOk result (λ _. ItemHasErasures (written item.now)) }
 {
     let rules = Rules {
         alloc,
@@ -71,7 +53,7 @@ fn check_item(
     };
     match rules.item(item) {
         Ok(()) => Ok(()),
-        Err(fault) => Err(in_item(checked.len(), fault)),
+        Err(fault) => Err(fault.of_item(checked.len())),
     }
 }
 

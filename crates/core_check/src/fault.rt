@@ -2,6 +2,7 @@
 ghost use Rattle.std.specs.Prelude.{◌≡◌, ◌∷◌, IfOk};
 ghost use Rattle.cdle_model.specs.Check.{Reason};
 ghost use Rattle.core_check.specs.Faults.{HasRoom, IsInside, IsRefusal, IsSpent, fault_of, path_of};
+ghost use Rattle.core_check.specs.Answer.{IsOfItem};
 ghost use Rattle.core_check.specs.Reasons.{IsWhy};
 ghost use Rattle.core_check.specs.declared.fault.Fault.TheVariants.{NoMemory as Wanted};
 
@@ -81,6 +82,25 @@ impl Fault {
         match path(alloc, place) {
             Ok(path) => Fault::Undecided { path },
             Err(_) => Fault::NoMemory,
+        }
+    }
+
+    /// The fault of the item of that number, in which the path begins.
+    pub(crate) fn of_item(self, item: u32) -> CoreFault
+        ensures { IsOfItem item self result }
+    {
+        match self {
+            Fault::Refused { path, why } => CoreFault::Refused {
+                item,
+                path: Path::new(path),
+                why,
+            },
+            Fault::Undecided { path } => CoreFault::Undecided {
+                item,
+                path: Path::new(path),
+            },
+            Fault::TooDeep => CoreFault::TooDeep { item },
+            Fault::NoMemory => CoreFault::NoMemory,
         }
     }
 

@@ -5,7 +5,7 @@ ghost use Rattle.cdle_model.specs.Depth.{depth};
 ghost use Rattle.cdle_model.specs.Forms.{all as all_tree, allt as allt_tree, eq as eq_tree, iota as iota_tree, kpi as kpi_tree, kpit as kpit_tree, pi as pi_tree};
 ghost use Rattle.cdle_model.specs.Trees.{IsBelow, lacks as is_missing, put};
 ghost use Rattle.cdle_model.specs.declared.grammar.Sort.TheVariants.{OfTerm, OfType as OfTypes};
-ghost use Rattle.core_reduce.specs.declared.side.SideClass.TheVariants.{OfKind, OfType};
+ghost use Rattle.core_reduce.specs.declared.side.SideClass.TheVariants.{OfKind, OfPure, OfType};
 ghost use Rattle.core_check.specs.Faults.{IsLimited};
 
 use crate::fault::{Fault, room};
@@ -113,6 +113,17 @@ pub(crate) fn put_term(alloc: Global, ty: &Guide, term: &Pure) -> Result<Guide, 
     ensures { IsLimited (put 0 term.now ty.now) result }
 {
     Ok(ty.put_pure(alloc, 0, term)?)
+}
+
+/// The type with the term for which a side stands put for its variable 0.
+pub(crate) fn put_side(alloc: Global, ty: &Guide, side: &Side) -> Result<Guide, Fault>
+    requires class { side.now.class ≡ OfPure }
+    requires used { UsedAs OfTerm 0 guides ty.now }
+    requires below { IsBelow 4290000000 side.now.tree }
+    ensures { IsLimited (put 0 side.now.tree ty.now) result }
+{
+    let term = side.flat_pure(alloc)?;
+    Ok(ty.put_pure(alloc, 0, &term)?)
 }
 
 /// The type of a side, with the term put for its variable 0. Where that is too deep, so is the result.

@@ -1,9 +1,9 @@
-use Rattle.std.proofs.Common.{◌≡◌, ap, sym, subst, ◌∙◌}
+use Rattle.std.proofs.Common.{rules, ◌≡◌, ◌∷◌, [], ap, sym, subst, ◌∙◌}
 use denote.Enum.Bare.{same_true}
 use Rattle.core_reduce.specs.contracts.value.Former.{the_type}
 use Rattle.core_reduce.specs.declared.value.Former.{Former}
 use Rattle.core_reduce.specs.declared.value.Value.{Value}
-use Rattle.core_reduce.specs.Values.{IsValueOf, classes, former_class, former_parts, value_tree}
+use Rattle.core_reduce.specs.Values.{IsValueOf, former_class, former_parts, former_tree, value_tree}
 use Rattle.core_check.proofs.Splits.{more_parts, some_part, split_is}
 use Rattle.core_check.proofs.ask.split.Goals as goal
 

@@ -1,6 +1,6 @@
 use Rattle.std.proofs.Common.{◌+◌, ◌*◌}
 use Rattle.cdle_model.specs.Depth.{depth}
-use Rattle.cdle_model.specs.Forms.{allt, app, at_, kpi, kpit, lam, on, pi, tlam, xtlam}
+use Rattle.cdle_model.specs.Forms.{allt, app, at_, delta, eapp, elam, fst, kpi, kpit, lam, on, pair, phi, pi, rho, snd, tapp, tlam, xlam, xtlam}
 use Rattle.core_check.proofs.ask.Rules.+infer.Given as goal
 
 abbrev pub decreases-term : goal.decreases-term
@@ -53,3 +53,33 @@ decreases-term_product l = 4 * depth (kpi l.domain.now l.part.now)
 
 abbrev pub decreases-type_product : goal.decreases-type_product
 decreases-type_product l = 4 * depth (kpit l.domain.now l.part.now)
+
+abbrev pub decreases-erased_abstraction : goal.decreases-erased_abstraction
+decreases-erased_abstraction l = 4 * depth (elam l.ty.now l.part.now)
+
+abbrev pub decreases-type_abstraction : goal.decreases-type_abstraction
+decreases-type_abstraction l = 4 * depth (xlam l.kind.now l.part.now)
+
+abbrev pub decreases-erased_application : goal.decreases-erased_application
+decreases-erased_application l = 4 * depth (eapp l.head.now l.arg.now)
+
+abbrev pub decreases-type_application : goal.decreases-type_application
+decreases-type_application l = 4 * depth (tapp l.head.now l.arg.now)
+
+abbrev pub decreases-pair : goal.decreases-pair
+decreases-pair l = 4 * depth (pair l.left.now l.right.now l.ty.now)
+
+abbrev pub decreases-first : goal.decreases-first
+decreases-first l = 4 * depth (fst l.part.now)
+
+abbrev pub decreases-second : goal.decreases-second
+decreases-second l = 4 * depth (snd l.part.now)
+
+abbrev pub decreases-rewriting : goal.decreases-rewriting
+decreases-rewriting l = 4 * depth (rho l.proof.now l.guide.now l.ty.now l.part.now)
+
+abbrev pub decreases-cast : goal.decreases-cast
+decreases-cast l = 4 * depth (phi l.proof.now l.part.now l.kept.now)
+
+abbrev pub decreases-separation : goal.decreases-separation
+decreases-separation l = 4 * depth (delta l.ty.now l.proof.now)

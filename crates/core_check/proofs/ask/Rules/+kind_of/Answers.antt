@@ -1,6 +1,6 @@
-use Rattle.std.proofs.Common.{◌≡◌, ◌+◌, ◌≤◌, ◌∷◌, Option, Some, IfOk, length, option_map, slice_get, arith, sym, subst}
+use Rattle.std.proofs.Common.{◌≡◌, ◌+◌, ◌≤◌, Option, Some, IfOk, length, option_map, slice_get, arith, sym, subst}
 use Rattle.cdle_model.specs.declared.grammar.Sort.TheVariants.{OfTerm, OfType}
-use Rattle.cdle_model.specs.Classes.{guides, guide_kinds, item_sorts}
+use Rattle.cdle_model.specs.Classes.{guide_kinds, item_sorts}
 use Rattle.cdle_model.specs.Derivation.{Entry, term_of, type_of, entry}
 use Rattle.cdle_model.specs.Fitting.{ContextFits}
 use Rattle.core_check.specs.Context.{entries, lifted, sorts}
@@ -12,7 +12,7 @@ pub shift-requires : goal.shift-requires
 shift-requires t c =
     let fits = subst (λ (x : Context). ContextFits (item_sorts c.args.self.now.items.now) (entries x)) c.in-Type.is c.requires.fits in
     let few = subst (λ (x : Context). length (entries x) + c.args.passed ≤ 4096) c.in-Type.is c.requires.few in
-    raises guide_kinds (item_sorts c.args.self.now.items.now) (entries c.in-Type.outer.now) c.args.passed c.in-Type.kind.now tt c.known.ensures fits.0 (omega (arith, few)) c.depth-depth.ensures.bounded
+    raises guide_kinds (item_sorts c.args.self.now.items.now) (entries c.in-Type.outer.now) c.args.passed c.in-Type.kind.now tt c.known.ensures fits.0 (omega (arith, few)) (omega arith)
 
 pub returns-in_ok-shift-in-Type : goal.returns-in_ok-shift-in-Type
 returns-in_ok-shift-in-Type t c =

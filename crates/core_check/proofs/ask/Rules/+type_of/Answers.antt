@@ -1,6 +1,6 @@
-use Rattle.std.proofs.Common.{◌≡◌, ◌+◌, ◌≤◌, ◌∷◌, Option, Some, IfOk, length, option_map, slice_get, arith, sym, subst}
+use Rattle.std.proofs.Common.{◌≡◌, ◌+◌, ◌≤◌, Option, Some, IfOk, length, option_map, slice_get, arith, sym, subst}
 use Rattle.cdle_model.specs.declared.grammar.Sort.TheVariants.{OfTerm, OfType}
-use Rattle.cdle_model.specs.Classes.{guides, guide_kinds, item_sorts}
+use Rattle.cdle_model.specs.Classes.{guides, item_sorts}
 use Rattle.cdle_model.specs.Derivation.{Entry, term_of, type_of, entry}
 use Rattle.cdle_model.specs.Fitting.{ContextFits}
 use Rattle.core_check.specs.Context.{entries, lifted, sorts}
@@ -12,7 +12,7 @@ pub shift-requires : goal.shift-requires
 shift-requires t c =
     let fits = subst (λ (x : Context). ContextFits (item_sorts c.args.self.now.items.now) (entries x)) c.in-Term.is c.requires.fits in
     let few = subst (λ (x : Context). length (entries x) + c.args.passed ≤ 4096) c.in-Term.is c.requires.few in
-    raises guides (item_sorts c.args.self.now.items.now) (entries c.in-Term.outer.now) c.args.passed c.in-Term.ty.now tt c.known.ensures fits.0 (omega (arith, few)) c.depth-depth.ensures.bounded
+    raises guides (item_sorts c.args.self.now.items.now) (entries c.in-Term.outer.now) c.args.passed c.in-Term.ty.now tt c.known.ensures fits.0 (omega (arith, few)) (omega arith)
 
 pub returns-in_ok-shift-in-Term : goal.returns-in_ok-shift-in-Term
 returns-in_ok-shift-in-Term t c =

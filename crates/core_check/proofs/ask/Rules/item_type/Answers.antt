@@ -1,19 +1,19 @@
-use Rattle.std.proofs.Common.{◌≡◌, Some, ap, subst, sym, slice_get, ◌∙◌}
+use Rattle.std.proofs.Common.{◌≡◌, Some, ap, subst, sym, ◌∙◌}
 use Rattle.std.proofs.lemmas.Result.{err_from_is_err_and}
-use Rattle.cdle_model.specs.declared.grammar.Sort.TheVariants.{OfTerm, OfType}
+use Rattle.cdle_model.specs.declared.grammar.Sort.TheVariants.{OfTerm}
 use Rattle.cdle_model.specs.Classes.{item_sort}
-use Rattle.cdle_model.specs.Derivation.{item, signature}
+use Rattle.cdle_model.specs.Derivation.{term_of, item, signature, signed}
 use Rattle.cdle_model.specs.Fitting.{ItemHasErasures}
 use Rattle.core_tree.specs.Items.{written}
 use Rattle.core_tree.specs.declared.items.CoreItem.{CoreItem}
 use Rattle.core_check.specs.Context.{entries}
 use Rattle.core_check.proofs.Found.{known_item}
-use Rattle.core_check.proofs.Known.{have_erasures, item_sort_is, known_term, known_type, sort_below}
+use Rattle.core_check.proofs.Known.{have_erasures, item_sort_is, known_term, sort_below}
 use Rattle.core_check.proofs.Results.{no_memory}
 use Rattle.core_check.proofs.ask.Rules.item_type.Goals as goal
 
 pub get-requires : goal.get-requires
-get-requires c = sort_below c.args.self.now.items.now c.args.item OfTerm c.requires
+get-requires c = sort_below c.args.self.now.items.now c.args.item OfTerm c.requires.fits
 
 pub erase-requires : goal.erase-requires
 erase-requires c =
@@ -24,8 +24,9 @@ returns-in_err-erase-in-Def c = let p = err_from_is_err_and c.from_residual.resu
 
 pub unreachable-requires : goal.unreachable-requires
 unreachable-requires c =
-    let e = item_sort_is c.args.self.now.items.now c.args.item OfTerm (written c.get.result.now) c.requires c.get.ensures in
+    let e = item_sort_is c.args.self.now.items.now c.args.item OfTerm (written c.get.result.now) c.requires.fits c.get.ensures in
     let f = subst (λ (z : CoreItem). item_sort (written z) ≡ OfTerm) c.in-TypeDef.is e in cc
 
 pub returns : goal.returns
-returns c = known_term c.args.self.now.items.now c.args.self.now.budget (entries c.args.context.now) (item (signature c.args.self.now.items.now) c.args.item) _ _ ? c.limited.ensures
+returns c = known_term c.args.self.now.items.now c.args.self.now.budget (entries c.args.context.now) (item (signature c.args.self.now.items.now) c.args.item) _ _
+    (known_item c.args.self.now.items.now c.args.item (written c.get.result.now) c.get.ensures ∙ ap (λ (z : CoreItem). Some (signed (written z)).known) c.in-Def.is ∙ ap (λ z. Some (term_of z)) (sym c.in_ok-erase-in-Def.ensures.is)) c.limited.ensures

@@ -1,14 +1,12 @@
-use Rattle.std.proofs.Common.{◌∷◌, [], Ok, Err, subst, sym}
+use Rattle.std.proofs.Common.{◌∷◌, [], Ok, Err, subst}
 use Rattle.std.proofs.lemmas.Result.{err_from_is_err_and}
-use Rattle.cdle_model.specs.Trees.{Tree}
-use Rattle.core_reduce.specs.declared.side.SideClass.TheVariants.{OfKind, OfType}
+use Rattle.core_reduce.specs.declared.side.SideClass.TheVariants.{OfType}
 use Rattle.core_reduce.specs.declared.value.Value.{Value}
 use Rattle.core_reduce.specs.Sides.{IsKept, Sided}
 use Rattle.core_reduce.specs.Values.{value_tree}
 use Rattle.core_check.specs.Formers.{other_form}
 use Rattle.core_check.specs.Questions.{MeetsHeadForm}
-use Rattle.core_check.proofs.Asked.{parts_found, parts_fit, other_refuses}
-use Rattle.core_check.proofs.Splits.{kind_why}
+use Rattle.core_check.proofs.Asked.{parts_found, other_refuses}
 use Rattle.core_check.proofs.Results.{no_memory}
 use Rattle.core_check.proofs.ask.Rules.type_parts.Goals as goal
 

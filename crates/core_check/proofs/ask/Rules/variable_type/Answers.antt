@@ -2,7 +2,7 @@ use Rattle.std.proofs.Common.{sym, ◌∙◌}
 use Rattle.std.proofs.lemmas.Result.{err_from_is_err_and}
 use Rattle.cdle_model.specs.Derivation.{entry}
 use Rattle.core_check.specs.Context.{entries}
-use Rattle.core_check.proofs.Known.{known_term, known_type}
+use Rattle.core_check.proofs.Known.{known_term}
 use Rattle.core_check.proofs.Looked.{lift_none}
 use Rattle.core_check.proofs.Results.{no_memory}
 use Rattle.core_check.proofs.ask.Rules.variable_type.Goals as goal
