@@ -1,9 +1,9 @@
 -- What has been checked has an erasure, and what was found is in its class.
-use Rattle.std.proofs.Common.{◌≡◌, ℕ, zero, suc, List, [], ◌∷◌, Ok, Some, option_map, slice_get, subst, ap}
+use Rattle.std.proofs.Common.{◌≡◌, ℕ, zero, suc, List, [], ◌∷◌, Ok, Some, slice_get, subst, ap}
 use Rattle.cdle_model.specs.Trees.{Tree}
 use Rattle.cdle_model.specs.Forms.{Written}
 use Rattle.cdle_model.specs.Classes.{AreItems, Fits, item_sorts, within}
-use Rattle.cdle_model.specs.Derivation.{Entry, Item, Judgement, bodies, item, signature, signed}
+use Rattle.cdle_model.specs.Derivation.{Entry, Judgement, bodies, item, signature, signed}
 use Rattle.cdle_model.specs.Erasure.{HasErasure}
 use Rattle.cdle_model.specs.Fitting.{ContextFits, HaveErasures, entry_sorts, given_class, subject_class}
 use Rattle.cdle_model.specs.Check.{infer}

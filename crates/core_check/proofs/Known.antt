@@ -1,18 +1,15 @@
 -- What is known of a variable or of an item.
-use Rattle.std.proofs.Common.{◌≡◌, ℕ, zero, suc, ◌<◌, List, [], ◌∷◌, length, Result, Option, Some, ap, sym, ◌∙◌, subst, slice_get, arith}
+use Rattle.std.proofs.Common.{◌≡◌, ℕ, zero, suc, ◌<◌, List, [], ◌∷◌, length, Result, Option, Some, subst, slice_get, arith}
 use Rattle.cdle_model.specs.declared.grammar.Sort.{Sort}
-use Rattle.cdle_model.specs.declared.grammar.Sort.TheVariants.{OfTerm, OfType}
-use Rattle.cdle_model.specs.Trees.{Tree, var, name}
+use Rattle.cdle_model.specs.Trees.{Tree}
 use Rattle.cdle_model.specs.Forms.{Written}
 use Rattle.cdle_model.specs.Classes.{item_sort, item_sorts}
-use Rattle.cdle_model.specs.Derivation.{Entry, term_of, type_of, Judgement, a_term, a_type, entry, item, signature, signed}
-use Rattle.cdle_model.specs.Erasure.{erased}
+use Rattle.cdle_model.specs.Derivation.{Entry, term_of, type_of, a_term, a_type}
 use Rattle.cdle_model.specs.Fitting.{HaveErasures, ItemHasErasures}
-use Rattle.cdle_model.specs.Check.{found, infer, limited}
+use Rattle.cdle_model.specs.Check.{found}
 use Rattle.core_check.specs.Faults.{IsLimited}
 use Rattle.core_check.specs.declared.fault.Fault.{Fault}
 use Rattle.core_check.specs.Questions.{Meets}
-use Rattle.core_check.proofs.Found.{known_item}
 use Rattle.core_check.proofs.Results.{limited_meets}
 
 pub have_erasures : (es : List Written) (n : ℕ) (w : Written) → HaveErasures es → slice_get es n ≡ Some w → ItemHasErasures w

@@ -1,7 +1,6 @@
 -- Looking up a variable in a context.
 use Rattle.std.proofs.Common.{◌≡◌, ℕ, zero, suc, ◌+◌, ◌-◌, ◌<◌, ◌≤◌, List, [], ◌∷◌, length, Option, Some, None, option_map, refl, sym, ap, subst, ◌∙◌, arith, slice_get}
 use Rattle.cdle_model.specs.declared.grammar.Sort.{Sort}
-use Rattle.cdle_model.specs.declared.grammar.Sort.TheVariants.{OfTerm, OfType}
 use Rattle.cdle_model.specs.Trees.{Tree, shift}
 use Rattle.cdle_model.specs.Classes.{TreeClass, IsOf, Fits, within}
 use Rattle.cdle_model.specs.Depth.{depth, ShiftFits}

@@ -1,5 +1,5 @@
 -- Questions that pass up to others, and those of a part as seen from its form.
-use Rattle.std.proofs.Common.{◌≡◌, inl, inr, ℕ, ◌+◌, List, [], ◌∷◌, refl, sym, ap, ◌∙◌, subst, arith}
+use Rattle.std.proofs.Common.{◌≡◌, inl, inr, ℕ, ◌+◌, List, ◌∷◌, refl, sym, ap, ◌∙◌, subst, arith}
 use Rattle.cdle_model.specs.Trees.{Tree}
 use Rattle.cdle_model.specs.Machine.{Outcome, answered, spent}
 use Rattle.cdle_model.specs.HeadForms.{HeadAnswer, value, no_value, head_form}
@@ -9,7 +9,7 @@ use Rattle.cdle_model.proofs.LargerBudget.{head_form_more, compare_more}
 use Rattle.cdle_model.proofs.CheckLargerBudget.{Firm, firm-answer}
 
 -- from m units on, the questions of q pass up to those of q'
-pub record Passes (s : List Tree) (m : ℕ) (q q' : Questions) : Type 0 where
+pub record Passing (s : List Tree) (m : ℕ) (q q' : Questions) : Type 0 where
   pub answers : (j : ℕ) → answer s (m + j) q ≡ answer s (m + j) q'
   pub spent : (n j : ℕ) (p : List ℕ) → SpentAfter s n (m + j) p q' → SpentAfter s n (m + j) p q
 
@@ -90,19 +90,19 @@ spent_later s n m i p (ask_head p' x k) f a e h = by_headed (λ b g. spent_later
     by_headed g (answered (no_value z) left) j l = absurd (grind arith)
     by_headed g spent j l = absurd (grind arith)
 
-pub passes_part : (s : List Tree) (m i : ℕ) (q : Questions) (f : Tree → Questions) (a : Tree) → answer s m q ≡ gives a → Passes s m (at_part i q f) (f a)
+pub passes_part : (s : List Tree) (m i : ℕ) (q : Questions) (f : Tree → Questions) (a : Tree) → answer s m q ≡ gives a → Passing s m (at_part i q f) (f a)
 passes_part s m i q f a e = record {
   answers = λ j. answer_part s (m + j) i q f ∙ ap (λ z. inside i z (λ b. answer s (m + j) (f b))) (firm_more s m j q (gives a) tt e);
   spent = λ n j p. spent_later s n (m + j) i p q f a (firm_more s m j q (gives a) tt e);
 }
 
-pub passes_same : (s : List Tree) (m : ℕ) (p : List ℕ) (w : Reason) (a b : Tree) (q : Questions) (left : ℕ) → compare s m a b ≡ answered same left → Passes s m (ask_same p w a b q) q
+pub passes_same : (s : List Tree) (m : ℕ) (p : List ℕ) (w : Reason) (a b : Tree) (q : Questions) (left : ℕ) → compare s m a b ≡ answered same left → Passing s m (ask_same p w a b q) q
 passes_same s m p w a b q left e = record {
   answers = λ j. ap (λ z. by_answer p w z (answer s (m + j) q)) (compare_more s m a b same left j e);
   spent = λ n j p' h. inr ((left + j, compare_more s m a b same left j e), h);
 }
 
-pub passes_head : (s : List Tree) (m : ℕ) (p : List ℕ) (a : Tree) (k : Tree → Questions) (b : Tree) (left : ℕ) → head_form s m a ≡ answered (value b) left → Passes s m (ask_head p a k) (k b)
+pub passes_head : (s : List Tree) (m : ℕ) (p : List ℕ) (a : Tree) (k : Tree → Questions) (b : Tree) (left : ℕ) → head_form s m a ≡ answered (value b) left → Passing s m (ask_head p a k) (k b)
 passes_head s m p a k b left e = record {
   answers = λ j. ap (λ z. by_head p z (λ c. answer s (m + j) (k c))) (head_form_more s m a (value b) left j e);
   spent = λ n j p' h. inr (b, left + j, head_form_more s m a (value b) left j e, h);

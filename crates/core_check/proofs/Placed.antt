@@ -1,5 +1,5 @@
 -- Where the parts of forms stand.
-use Rattle.std.proofs.Common.{◌≡◌, ℕ, ◌≤◌, List, ◌∷◌, length, refl, subst, sym, arith}
+use Rattle.std.proofs.Common.{◌≡◌, ◌≤◌, List, ◌∷◌, length, refl, arith}
 use Rattle.cdle_model.specs.declared.grammar.Sort.{Sort}
 use Rattle.cdle_model.specs.Trees.{Tree, IsBelow, put}
 use Rattle.cdle_model.specs.Classes.{TreeClass, Fits, UsedAs, within}

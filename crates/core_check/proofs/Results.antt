@@ -1,5 +1,5 @@
 -- Results of questions: of those that others lead to, and the faults.
-use Rattle.std.proofs.Common.{◌≡◌, inl, ℕ, ◌+◌, ◌<◌, ◌≤◌, true, false, ltb, List, [], ◌∷◌, Result, Ok, Err, refl, sym, ap, ◌∙◌, subst, arith}
+use Rattle.std.proofs.Common.{◌≡◌, inl, ℕ, ◌+◌, ◌≤◌, true, false, ltb, List, Result, Ok, Err, refl, sym, ap, ◌∙◌, arith}
 use Rattle.std.proofs.lemmas.Bool.{lt-ltb, le-ltb}
 use Rattle.cdle_model.specs.Trees.{Tree}
 use Rattle.cdle_model.specs.Forms.{Written}
@@ -11,16 +11,16 @@ use Rattle.cdle_model.specs.Derivation.{bodies, signature}
 use Rattle.cdle_model.specs.Check.{Reason, Finding, gives, refused, halts, Questions, finds, refuse, ask_same, ask_head, at_part, unless_deep, limited, by_answer, by_head, answer}
 use Rattle.core_check.specs.declared.fault.Fault.{Fault}
 use Rattle.core_check.specs.declared.fault.Fault.TheVariants as f
-use Rattle.core_check.specs.Reasons.{IsWhy}
 use Rattle.core_check.specs.Faults.{IsInside, IsRefusal, IsSpent, IsLimited}
-use Rattle.core_check.specs.Questions.{Meets, Leads}
-use Rattle.core_check.proofs.Passing.{Passes, inside, answer_part, IsFirm, firm_more, spent_more, spent_inside, passes_part, passes_same, passes_head}
+use Rattle.core_check.specs.Questions.{Meets, Leads, Passes}
+use Rattle.core_check.specs.Answer.{MeetsItem}
+use Rattle.core_check.proofs.Passing.{Passing, inside, answer_part, IsFirm, firm_more, spent_more, spent_inside, passes_part, passes_same, passes_head}
 
 module _ (es : List Written) (n : ℕ) where
-  raised : (m k : ℕ) (q q' : Questions) (x : Finding) → IsFirm x → Passes (bodies (signature es)) m q q' → answer (bodies (signature es)) k q' ≡ x → answer (bodies (signature es)) (m + k) q ≡ x
+  raised : (m k : ℕ) (q q' : Questions) (x : Finding) → IsFirm x → Passing (bodies (signature es)) m q q' → answer (bodies (signature es)) k q' ≡ x → answer (bodies (signature es)) (m + k) q ≡ x
   raised m k q q' x i h e = let c : m + k ≡ k + m = omega arith in h.answers k ∙ rw c (firm_more (bodies (signature es)) k m q' x i e)
 
-  passes_leads : (m : ℕ) (q q' : Questions) → Passes (bodies (signature es)) m q q' → Leads es n q q'
+  passes_leads : (m : ℕ) (q q' : Questions) → Passing (bodies (signature es)) m q q' → Leads es n q q'
   unfolding Meets
   passes_leads m q q' h (Ok a) (k, e) = (m + k, raised m k q q' (gives a) tt h e)
   passes_leads m q q' h (Err (f.Refused p w)) (r, i, j) = (r, record { units = m + i.units; is = raised m i.units q q' (refused p.items r) tt h i.is }, j)
@@ -126,3 +126,8 @@ module _ (es : List Written) (n : ℕ) where
   limited_meets a (Err f.NoMemory) l = tt
   limited_meets a (Err (f.Refused p w)) l = absurd l
   limited_meets a (Err (f.Undecided p)) l = absurd l
+
+  -- an item, whose last question is asked with nothing to follow
+  pub item_meets : (q k : Questions) (c : Questions → Questions) (r : Result (Unit {0}) Fault) (a : Tree) → Leads es n q (c k) → Meets es n k (Ok a) → Passes es n c r → MeetsItem es n q r
+  item_meets q k c (Ok x) a l m p = (a, l (Ok a) (p k (Ok a) m))
+  item_meets q k c (Err e) a l m p = l (Err e) (p k)

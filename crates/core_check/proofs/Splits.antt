@@ -1,7 +1,7 @@
 -- Head forms that are of a form that is looked for, and those that are not.
-use Rattle.std.proofs.Common.{◌≡◌, ℕ, suc, List, [], ◌∷◌, ◌++◌, length, None, refl, sym, ap, ◌∙◌, arith}
+use Rattle.std.proofs.Common.{◌≡◌, suc, List, [], ◌∷◌, ◌++◌, length, None, refl, sym, ap, ◌∙◌, arith}
 use Rattle.std.proofs.lemmas.List.{length-append}
-use Rattle.cdle_model.specs.Trees.{Function, of_pure, of_term, of_type, Binary, eq_of, Binder, pi_of, all_of, allt_of, iota_of, kpi_of, kpit_of, Binder-discrete, Tree, var, name, leaf, unary, fun, apply, binary, bind}
+use Rattle.cdle_model.specs.Trees.{of_pure, of_term, of_type, eq_of, Binder, pi_of, all_of, allt_of, iota_of, kpi_of, kpit_of, Binder-discrete, Tree, var, name, leaf, unary, fun, apply, binary, bind}
 use Rattle.cdle_model.specs.Forms.{eq}
 use Rattle.cdle_model.specs.Check.{Questions, binder_parts, equation_parts}
 use Rattle.core_reduce.specs.declared.side.SideClass.{SideClass}

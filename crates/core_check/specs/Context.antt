@@ -1,12 +1,9 @@
 -- The context in which a part is checked, as the code's list of binders stands for it.
-use Rattle.std.specs.Prelude.{◌≤◌, ◌+◌, ℕ, List, [], ◌∷◌, length}
+use Rattle.std.specs.Prelude.{ℕ, List, [], ◌∷◌}
 use Rattle.cdle_model.specs.declared.grammar.Sort.{Sort}
-use Rattle.cdle_model.specs.Trees.{Tree, shift}
-use Rattle.cdle_model.specs.Forms.{Written}
-use Rattle.cdle_model.specs.Depth.{depth}
-use Rattle.cdle_model.specs.Classes.{TreeClass, within, Fits, item_sorts}
+use Rattle.cdle_model.specs.Trees.{shift}
 use Rattle.cdle_model.specs.Derivation.{Entry, term_of, type_of}
-use Rattle.cdle_model.specs.Fitting.{entry_sorts, ContextFits}
+use Rattle.cdle_model.specs.Fitting.{entry_sorts}
 use Rattle.core_check.specs.declared.context.Context.{Context, Empty, Term', Type'}
 
 abbrev pub entries : Context → List Entry

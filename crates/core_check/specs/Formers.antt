@@ -1,6 +1,5 @@
 -- The forms of two parts that a rule looks for in a head form.
-use Rattle.std.specs.Prelude.{◌≡◌, ℕ, List, [], ◌∷◌, Result, Ok, Err, length, None}
-use Rattle.cdle_model.specs.declared.grammar.Sort.{Sort}
+use Rattle.std.specs.Prelude.{◌≡◌, [], ◌∷◌, Result, Ok, Err, None}
 use Rattle.cdle_model.specs.Trees.{Binder, pi_of, all_of, allt_of, iota_of, kpi_of, kpit_of, Tree}
 use Rattle.cdle_model.specs.Check.{Reason, not_a_function, not_an_intersection, wrong_kind}
 use Rattle.core_reduce.specs.declared.value.Former.{Former}

@@ -1,6 +1,6 @@
 -- Values as trees: their heads and their parts.
-use Rattle.std.proofs.Common.{◌≡◌, ◌⊎◌, inl, inr, ℕ, suc, ◌+◌, List, [], ◌∷◌, ◌++◌, length, Option, None, sym, ◌∙◌, subst, refl, ap, arith, append_assoc}
-use Rattle.cdle_model.specs.Trees.{Function, of_pure, of_term, of_type, eq_of, star_of, Binder, pi_of, all_of, allt_of, iota_of, kpi_of, kpit_of, Tree, var, apply}
+use Rattle.std.proofs.Common.{◌≡◌, ◌⊎◌, inl, inr, ℕ, suc, ◌+◌, List, [], ◌∷◌, ◌++◌, length, None, sym, ◌∙◌, subst, refl, ap, arith, append_assoc}
+use Rattle.cdle_model.specs.Trees.{Function, of_term, of_type, eq_of, star_of, pi_of, all_of, allt_of, iota_of, kpi_of, kpit_of, Tree, var, apply}
 use Rattle.cdle_model.specs.Comparison.{Head, variable, constant, argument, function, leaf_head, former, binary_head, stuck, applied_head, head_of, parts_by, parts_of, Pair, pairs_of, function_of, into, differ, same_heads, against, split}
 use Rattle.cdle_model.proofs.HeadParts.{count, same_heads-cases}
 use Rattle.core_reduce.specs.declared.side.SideClass.{SideClass}
@@ -85,7 +85,7 @@ args_so k t (x ∷ xs) v =
     let r = args_so k (apply c t x.tree) xs (subst IsVariable (sym e) tt) in
     record {
       head = r.head ∙ ap (λ h. args_head k h xs) e;
-      parts = r.parts ∙ (ap (λ z. z ++ trees xs) g ∙ append_assoc);
+      parts = r.parts ∙ (ap (λ z. z ++ trees xs) g ∙ append_assoc (parts_of t) (x.tree ∷ []) (trees xs));
     }
 
 pub args_other : (k : SideClass) (t : Tree) (xs : List Sided) → function_of t ≡ None → function_of (applied_to k t xs) ≡ None

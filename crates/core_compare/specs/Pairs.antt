@@ -4,13 +4,13 @@ use Rattle.cdle_model.specs.declared.grammar.Sort.{Sort}
 use Rattle.cdle_model.specs.Trees.{Tree}
 use Rattle.cdle_model.specs.Machine.{run, spent}
 use Rattle.cdle_model.specs.HeadForms.{deep}
-use Rattle.cdle_model.specs.Comparison.{Pair, into, differ, split, halted, State, pairs, take_pair, move}
+use Rattle.cdle_model.specs.Comparison.{Pair, into, differ, split, halted, pairs, take_pair, move}
 use Rattle.core_reduce.specs.declared.side.SideClass.{SideClass}
 use Rattle.core_reduce.specs.declared.value.Value.{Value}
 use Rattle.core_reduce.specs.declared.reduce.Stop.{Stop}
 use Rattle.core_reduce.specs.declared.reduce.Stop.TheVariants.{Spent, TooDeep, NoMemory}
 use Rattle.core_reduce.specs.Sides.{Sided, class_trees}
-use Rattle.core_reduce.specs.Values.{IsValueOf, IsWhole, value_tree}
+use Rattle.core_reduce.specs.Values.{classes, IsValueOf, IsWhole, value_tree}
 use Rattle.core_compare.specs.declared.pairs.SidePair.{SidePair}
 use Rattle.core_compare.specs.declared.comparison.Next.{Next}
 use Rattle.core_compare.specs.declared.comparison.Next.TheVariants as n
@@ -40,6 +40,11 @@ abbrev pub part_pairs : ℕ → List Sided → List Sided → List SidePair
 part_pairs n [] ys = []
 part_pairs n xs [] = []
 part_pairs n (x ∷ xs) (y ∷ ys) = part_pairs n xs ys ++ (record { left = x; right = y; binders = n } ∷ [])
+
+-- where the arguments are as many and of the same classes, their pairs were put on the list
+abbrev pub MeetsArguments : ℕ → List Sided → List Sided → List SidePair → List SidePair → Bool → Type 0
+MeetsArguments n xs ys old new true = (classes xs ≡ classes ys) × (new ≡ old ++ part_pairs n xs ys)
+MeetsArguments n xs ys old new false = classes xs ≡ classes ys → ⊥
 
 -- the value is of the class, and has all arguments of a variable
 abbrev pub IsForm : SideClass → Value → Type 0

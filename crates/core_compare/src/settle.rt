@@ -1,11 +1,11 @@
 //! The pairs in place of two head forms.
 ghost use Rattle.std.specs.Prelude.{◌≡◌, ◌+◌, ◌++◌, ◌≤◌, ◌∷◌, [], ◌↔◌, IfOk, IsTrue};
 ghost use Rattle.core_reduce.specs.Values.{classes};
-ghost use Rattle.core_compare.specs.Pairs.{AreForms, MeetsSettle, part_pairs};
+ghost use Rattle.core_compare.specs.Pairs.{AreForms, MeetsArguments, MeetsSettle, part_pairs};
 
 use crate::pairs::SidePair;
 use cdle_model::NoMemory;
-use core_reduce::{Side, Value};
+use core_reduce::{Former, Side, Value};
 use std::alloc::Global;
 
 /// Puts the pairs in place of two head forms on the list; false where the two differ.
@@ -33,18 +33,25 @@ pub(crate) fn settle(
             Ok(true)
         }
         (Value::Var { var: i, args: xs }, Value::Var { var: j, args: ys }) => {
-            if *i != *j || !same_classes(xs, ys) {
+            if *i != *j {
                 return Ok(false);
             }
-            put_parts(xs, ys, binders, pairs)?;
-            Ok(true)
+            put_arguments(xs, ys, binders, pairs)
         }
-        (Value::Former { former: f, parts: ps }, Value::Former { former: g, parts: qs }) => {
-            if *f != *g {
+        (
+            Value::Former {
+                former: f,
+                parts: ps,
+            },
+            Value::Former {
+                former: g,
+                parts: qs,
+            },
+        ) => {
+            if !same_former(*f, *g) {
                 return Ok(false);
             }
-            let binders = one_more(binders)?;
-            put_parts(ps, qs, binders, pairs)?;
+            put_parts(ps, qs, one_more(binders)?, pairs)?;
             Ok(true)
         }
         (Value::Var { .. }, Value::Former { .. }) => Ok(false),
@@ -82,6 +89,22 @@ fn put_bodies(
     Ok(())
 }
 
+/// Puts the pairs of the arguments of one variable on the list; false where they are not as many, or not of the same classes.
+fn put_arguments(
+    xs: &Vec<Side>,
+    ys: &Vec<Side>,
+    binders: u32,
+    pairs: &mut Vec<SidePair>,
+) -> Result<bool, NoMemory>
+    ensures { IfOk result (λ b. MeetsArguments binders xs.now.items ys.now.items pairs.old.items pairs.new.items b) }
+{
+    if !same_classes(xs, ys) {
+        return Ok(false);
+    }
+    put_parts(xs, ys, binders, pairs)?;
+    Ok(true)
+}
+
 /// Whether the sides are as many, and of the same classes.
 fn same_classes(xs: &Vec<Side>, ys: &Vec<Side>) -> bool
     ensures { IsTrue result ↔ classes xs.now.items ≡ classes ys.now.items }
@@ -91,12 +114,24 @@ fn same_classes(xs: &Vec<Side>, ys: &Vec<Side>) -> bool
     }
     let mut k = 0;
     'compared: while k < xs.len() {
-        if xs[k].class() != ys[k].class() {
+        if !same_class(&xs[k], &ys[k]) {
             return false;
         }
         k += 1;
     }
     true
+}
+
+fn same_class(x: &Side, y: &Side) -> bool
+    ensures { IsTrue result ↔ x.now.class ≡ y.now.class }
+{
+    x.class() == y.class()
+}
+
+fn same_former(x: Former, y: Former) -> bool
+    ensures { IsTrue result ↔ x ≡ y }
+{
+    x == y
 }
 
 /// Puts the pairs of parts on the list, the last first, so that the first is the next.

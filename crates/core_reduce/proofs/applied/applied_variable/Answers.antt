@@ -1,4 +1,4 @@
-use Rattle.std.proofs.Common.{◌≡◌, ◌+◌, ◌-◌, ◌≤◌, ◌<◌, [], ◌∷◌, ◌∙◌, IfOk, ap, sym, subst, refl, arith}
+use Rattle.std.proofs.Common.{◌≡◌, ◌-◌, ◌<◌, [], ◌∷◌, ◌∙◌, IfOk, ap, sym, subst, refl, arith}
 use Rattle.cdle_model.specs.Trees.{shift, var, IsBelow}
 use Rattle.core_tree.proofs.Puts.{fits_pure}
 use Rattle.core_reduce.specs.declared.root.Arg.TheVariants.{Ap}

@@ -1,6 +1,6 @@
 -- A result of a form: each step that passed leads to the rest of its questions, and a fault ends them. So an answer is a chain of the steps that passed,
 -- each by its clause, with what was found last; a type or a term that was erased first stands for its erasure.
-use Rattle.std.proofs.Common.{◌≡◌, ◌∷◌, [], Ok, Err, Some, IfOk, ap, subst, sym, refl, ◌∙◌, arith}
+use Rattle.std.proofs.Common.{◌∷◌, [], Ok, Err, Some, ap, subst, sym, ◌∙◌, arith}
 use Rattle.std.proofs.lemmas.Result.{err_from_is_err_and}
 use Rattle.cdle_model.specs.declared.grammar.Sort.TheVariants.{OfTerm, OfType}
 use Rattle.cdle_model.specs.Forms.{star}
@@ -12,7 +12,7 @@ use Rattle.cdle_model.proofs.ClassErasure.{erased-fits}
 use Rattle.core_reduce.specs.Sides.{Sided}
 use Rattle.core_tree.specs.Forms.{kind_tree, term_tree, ty_tree}
 use Rattle.core_check.specs.Context.{entries, sorts}
-use Rattle.core_check.specs.Questions.{Meets, MeetsKind}
+use Rattle.core_check.specs.Questions.{Meets}
 use Rattle.core_check.proofs.Found.{kept}
 use Rattle.core_check.proofs.Placed.{below, both_placed, erased_below, erased_fit, placed, put_fit, used}
 use Rattle.core_check.proofs.Results.{faults_inside, finds_meets, leads_low, leads_part, limited_fault, limited_meets, no_memory, refuses}
@@ -440,3 +440,9 @@ separation-returns t c = rw (← c.in_ok-ty.ensures.is) (c.in_ok-ty.ensures.pass
 
 pub term_form-returns-in-Beta : goal.term_form-returns-in-Beta
 term_form-returns-in-Beta t c = subst (λ (z : Tree). Meets c.args.self.now.items.now c.args.self.now.budget (infer (signature c.args.self.now.items.now) a_term (entries c.args.context.now) z) c.eq.result) (ap term_tree (sym c.in-Beta.is) ∙ c.form.ensures.is) (limited_meets _ _ _ _ c.eq.ensures)
+
+pub term_form-returns-in-Rho : goal.term_form-returns-in-Rho
+term_form-returns-in-Rho t c = subst (λ (z : Tree). Meets c.args.self.now.items.now c.args.self.now.budget (infer (signature c.args.self.now.items.now) a_term (entries c.args.context.now) z) c.rewriting.result) (ap term_tree (sym c.in-Rho.is) ∙ c.form.ensures.is) c.rewriting.ensures
+
+pub term_form-returns-in-Phi : goal.term_form-returns-in-Phi
+term_form-returns-in-Phi t c = subst (λ (z : Tree). Meets c.args.self.now.items.now c.args.self.now.budget (infer (signature c.args.self.now.items.now) a_term (entries c.args.context.now) z) c.cast.result) (ap term_tree (sym c.in-Phi.is) ∙ c.form.ensures.is) c.cast.ensures
