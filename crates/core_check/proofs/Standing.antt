@@ -47,7 +47,6 @@ named_more q es w old new fresh before step = step ∙ decided (bytes_eq (name_o
     decided true d = let none : first_of q es ≡ None = subst (λ (x : List ℕ). first_of x es ≡ None) (d.0 refl) fresh in ap (λ (o : Option ℕ). or_last o true (length es)) (sym none)
     decided false d = before ∙ no_last (first_of q es) (length es)
 
-
 -- ---- the check so far
 
 -- from m units on, the items before the rest pass
@@ -113,7 +112,7 @@ module _ (n : ℕ) (all es rest checked : List Written) (names : List ℕ → Op
           let b : n + m + s.units ≡ s.units + (n + m) = omega arith in
           let d : s.units + (n + m) ≡ n + (s.units + m) = omega arith in
           let u = subst (λ z. IsUndecided n z all (length es) p.items) d (s.pass.undecided n (n + m) (length es) p.items
-              (subst (λ z. UndecidedAfter n (s.units + (n + m)) es z (length es) p.items) (sym e) (is_new, inl (refl, subst (λ z. SpentAfter (bodies (signature es)) n z p.items (infer_item (signature es) w)) b (spent_more (bodies (signature es)) n (n + m) s.units p.items (infer_item (signature es) w) h))))) in
+          (subst (λ z. UndecidedAfter n (s.units + (n + m)) es z (length es) p.items) (sym e) (is_new, inl (refl, subst (λ z. SpentAfter (bodies (signature es)) n z p.items (infer_item (signature es) w)) b (spent_more (bodies (signature es)) n (n + m) s.units p.items (infer_item (signature es) w) h))))) in
           rw (a, l) (s.units + m, u)
       is_faulty i f.TooDeep (c.TooDeep j) g k (m, h) = let a = k ∙ g ∙ counted in rw a (s.units + m, verdict m (halts deep) tt h)
       is_faulty i f.NoMemory c.NoMemory g k h = tt

@@ -58,11 +58,7 @@ fn check_item(
 /// Whether the items of the files, numbered from 0 over all of them, have a derivation by Core's rules, with so many units for each comparison
 /// and each head form. At the first item that is not accepted the answer tells why: an earlier item has its name, it breaks a rule, a question
 /// needs more units, or a tree would be deeper than 4,096.
-pub fn check_files(
-    alloc: Global,
-    files: &Vec<CoreFile>,
-    budget: u64,
-) -> Result<Checked, CoreFault>
+pub fn check_files(alloc: Global, files: &Vec<CoreFile>, budget: u64) -> Result<Checked, CoreFault>
     requires items { AreItems (items_of files.now.items) }
     requires few { length (items_of files.now.items) < 4294967295 }
     ensures answer { IsAnswer budget (items_of files.now.items) result }
