@@ -118,11 +118,7 @@ impl Rules<'_> {
             Ok(parts) => Ok(parts),
             Err(value) => {
                 let head = value.tree_guide(self.alloc)?;
-                Err(Fault::refusal(
-                    self.alloc,
-                    Place::Part(part),
-                    other(former, head),
-                ))
+                Err(Fault::refusal(self.alloc, Place::Part(part), other(former, head)))
             }
         }
     }

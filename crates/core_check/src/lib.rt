@@ -1,4 +1,9 @@
 //! The checker of Core files.
+//!
+//! `check_files` reads Core's rules upwards over the items of files, in their order, and puts to comparison and head forms what each rule asks, with a
+//! budget for each question. What it accepts has a derivation; the items up to one that it refuses have none; every refusal is the definitions', with
+//! item, path and values; and wherever the definitions' check has a verdict at the budget given, the answer is that verdict, or want of memory.
+//! It stands on the comparison (`core_compare`), on head forms (`core_reduce`), on the trees (`core_tree`) and on the definitions (`cdle_model`) alone.
 #![tactic(auto)]
 
 mod ask;

@@ -20,7 +20,12 @@ use std::alloc::Global;
 
 impl Rules<'_> {
     /// The type that this part has is the wanted one.
-    pub(crate) fn has_whole_type(&self, part: u32, found: &Guide, wanted: &Guide) -> Result<(), Fault>
+    pub(crate) fn has_whole_type(
+        &self,
+        part: u32,
+        found: &Guide,
+        wanted: &Guide,
+    ) -> Result<(), Fault>
         requires { ArePlaced 4200000000 (item_sorts self.now.items.now) guides found.now wanted.now }
         ensures { Passes self.now.items.now self.now.budget (ask_same (part ∷ []) (mismatch found.now wanted.now) found.now wanted.now) result }
     {
@@ -40,11 +45,7 @@ impl Rules<'_> {
         }
         let left = left.tree_pure(self.alloc)?;
         let right = right.tree_pure(self.alloc)?;
-        Err(Fault::refusal(
-            self.alloc,
-            Place::Form,
-            Why::PartsDiffer { left, right },
-        ))
+        Err(Fault::refusal(self.alloc, Place::Form, Why::PartsDiffer { left, right }))
     }
 
     /// A type is the same as the guide with the equation's side.
@@ -59,11 +60,7 @@ impl Rules<'_> {
         }
         let left = left.tree_guide(self.alloc)?;
         let right = right.tree_guide(self.alloc)?;
-        Err(Fault::refusal(
-            self.alloc,
-            Place::Form,
-            Why::SidesDiffer { left, right },
-        ))
+        Err(Fault::refusal(self.alloc, Place::Form, Why::SidesDiffer { left, right }))
     }
 
     /// A side of an equation is the same as this term.
@@ -78,11 +75,7 @@ impl Rules<'_> {
         }
         let left = twice(self.alloc, left)?;
         let right = twice(self.alloc, &right)?;
-        Err(Fault::refusal(
-            self.alloc,
-            Place::Form,
-            Why::SidesDiffer { left, right },
-        ))
+        Err(Fault::refusal(self.alloc, Place::Form, Why::SidesDiffer { left, right }))
     }
 
     /// The sides of an equation are `λx.λy.x` and `λx.λy.y`.
@@ -119,11 +112,7 @@ impl Rules<'_> {
         }
         let left = left.tree_pure(self.alloc)?;
         let right = right.tree_pure(self.alloc)?;
-        Err(Fault::refusal(
-            self.alloc,
-            Place::Form,
-            Why::NotBooleans { left, right },
-        ))
+        Err(Fault::refusal(self.alloc, Place::Form, Why::NotBooleans { left, right }))
     }
 
     /// The sides of the equation that the type of this part is.
@@ -142,11 +131,7 @@ impl Rules<'_> {
             Ok(parts) => Ok(parts),
             Err(value) => {
                 let head = value.tree_guide(self.alloc)?;
-                Err(Fault::refusal(
-                    self.alloc,
-                    Place::Part(part),
-                    Why::NotAnEquation { head },
-                ))
+                Err(Fault::refusal(self.alloc, Place::Part(part), Why::NotAnEquation { head }))
             }
         }
     }

@@ -14,7 +14,10 @@ ghost use Rattle.core_check.specs.Questions.{Finds, Meets};
 use crate::ask::Rules;
 use crate::context::Context;
 use crate::fault::{Fault, Place};
-use crate::limit::{all, allt, eq, iota, lacks, limited, pi, put_side, put_term, put_term_in_type, put_type_in_type, whole_type};
+use crate::limit::{
+    all, allt, eq, iota, lacks, limited, pi, put_side, put_term, put_term_in_type,
+    put_type_in_type, whole_type,
+};
 use core_reduce::Former;
 use core_tree::{CoreItem, Guide, Kind, Pure, Term, TermForm, Ty, Why};
 
@@ -99,7 +102,12 @@ impl Rules<'_> {
 
     /// A function whose argument is erased, and so is not in the erasure of its body.
     #[cycle(infer)]
-    fn erased_abstraction(&self, context: &Context<'_>, ty: &Ty, part: &Term) -> Result<Guide, Fault>
+    fn erased_abstraction(
+        &self,
+        context: &Context<'_>,
+        ty: &Ty,
+        part: &Term,
+    ) -> Result<Guide, Fault>
         requires context { ContextFits (item_sorts self.now.items.now) (entries context.now) }
         requires fits { Fits (within (sorts context.now) (item_sorts self.now.items.now)) terms (elam ty.now part.now) }
         requires few { length (entries context.now) + depth (elam ty.now part.now) ≤ 4096 }
@@ -116,7 +124,12 @@ impl Rules<'_> {
 
     /// A function over types.
     #[cycle(infer)]
-    fn type_abstraction(&self, context: &Context<'_>, kind: &Kind, part: &Term) -> Result<Guide, Fault>
+    fn type_abstraction(
+        &self,
+        context: &Context<'_>,
+        kind: &Kind,
+        part: &Term,
+    ) -> Result<Guide, Fault>
         requires context { ContextFits (item_sorts self.now.items.now) (entries context.now) }
         requires fits { Fits (within (sorts context.now) (item_sorts self.now.items.now)) terms (xlam kind.now part.now) }
         requires few { length (entries context.now) + depth (xlam kind.now part.now) ≤ 4096 }
@@ -145,7 +158,12 @@ impl Rules<'_> {
 
     /// A function applied to an argument that is erased.
     #[cycle(infer)]
-    fn erased_application(&self, context: &Context<'_>, head: &Term, arg: &Term) -> Result<Guide, Fault>
+    fn erased_application(
+        &self,
+        context: &Context<'_>,
+        head: &Term,
+        arg: &Term,
+    ) -> Result<Guide, Fault>
         requires context { ContextFits (item_sorts self.now.items.now) (entries context.now) }
         requires fits { Fits (within (sorts context.now) (item_sorts self.now.items.now)) terms (eapp head.now arg.now) }
         requires few { length (entries context.now) + depth (eapp head.now arg.now) ≤ 4096 }
@@ -177,7 +195,13 @@ impl Rules<'_> {
 
     /// A pair of one term under two types.
     #[cycle(infer)]
-    fn pair(&self, context: &Context<'_>, left: &Term, right: &Term, ty: &Ty) -> Result<Guide, Fault>
+    fn pair(
+        &self,
+        context: &Context<'_>,
+        left: &Term,
+        right: &Term,
+        ty: &Ty,
+    ) -> Result<Guide, Fault>
         requires context { ContextFits (item_sorts self.now.items.now) (entries context.now) }
         requires fits { Fits (within (sorts context.now) (item_sorts self.now.items.now)) terms (pair left.now right.now ty.now) }
         requires few { length (entries context.now) + depth (pair left.now right.now ty.now) ≤ 4096 }
@@ -223,7 +247,14 @@ impl Rules<'_> {
 
     /// A term under a type that is rewritten by an equation.
     #[cycle(infer)]
-    fn rewriting(&self, context: &Context<'_>, proof: &Term, guide: &Guide, ty: &Ty, part: &Term) -> Result<Guide, Fault>
+    fn rewriting(
+        &self,
+        context: &Context<'_>,
+        proof: &Term,
+        guide: &Guide,
+        ty: &Ty,
+        part: &Term,
+    ) -> Result<Guide, Fault>
         requires context { ContextFits (item_sorts self.now.items.now) (entries context.now) }
         requires fits { Fits (within (sorts context.now) (item_sorts self.now.items.now)) terms (rho proof.now guide.now ty.now part.now) }
         requires few { length (entries context.now) + depth (rho proof.now guide.now ty.now part.now) ≤ 4096 }
@@ -242,7 +273,13 @@ impl Rules<'_> {
 
     /// A term in place of one that is equal to it.
     #[cycle(infer)]
-    fn cast(&self, context: &Context<'_>, proof: &Term, part: &Term, kept: &Pure) -> Result<Guide, Fault>
+    fn cast(
+        &self,
+        context: &Context<'_>,
+        proof: &Term,
+        part: &Term,
+        kept: &Pure,
+    ) -> Result<Guide, Fault>
         requires context { ContextFits (item_sorts self.now.items.now) (entries context.now) }
         requires fits { Fits (within (sorts context.now) (item_sorts self.now.items.now)) terms (phi proof.now part.now kept.now) }
         requires few { length (entries context.now) + depth (phi proof.now part.now kept.now) ≤ 4096 }

@@ -137,7 +137,12 @@ impl Rules<'_> {
 
     /// A type over types.
     #[cycle(infer)]
-    fn type_function(&self, context: &Context<'_>, kind: &Kind, part: &Ty) -> Result<GuideKind, Fault>
+    fn type_function(
+        &self,
+        context: &Context<'_>,
+        kind: &Kind,
+        part: &Ty,
+    ) -> Result<GuideKind, Fault>
         requires context { ContextFits (item_sorts self.now.items.now) (entries context.now) }
         requires fits { Fits (within (sorts context.now) (item_sorts self.now.items.now)) types (xtlam kind.now part.now) }
         requires few { length (entries context.now) + depth (xtlam kind.now part.now) ≤ 4096 }
@@ -150,7 +155,12 @@ impl Rules<'_> {
 
     /// A type applied to a term.
     #[cycle(infer)]
-    fn applied_to_term(&self, context: &Context<'_>, head: &Ty, arg: &Term) -> Result<GuideKind, Fault>
+    fn applied_to_term(
+        &self,
+        context: &Context<'_>,
+        head: &Ty,
+        arg: &Term,
+    ) -> Result<GuideKind, Fault>
         requires context { ContextFits (item_sorts self.now.items.now) (entries context.now) }
         requires fits { Fits (within (sorts context.now) (item_sorts self.now.items.now)) types (at_ head.now arg.now) }
         requires few { length (entries context.now) + depth (at_ head.now arg.now) ≤ 4096 }
@@ -166,7 +176,12 @@ impl Rules<'_> {
 
     /// A type applied to a type.
     #[cycle(infer)]
-    fn applied_to_type(&self, context: &Context<'_>, head: &Ty, arg: &Ty) -> Result<GuideKind, Fault>
+    fn applied_to_type(
+        &self,
+        context: &Context<'_>,
+        head: &Ty,
+        arg: &Ty,
+    ) -> Result<GuideKind, Fault>
         requires context { ContextFits (item_sorts self.now.items.now) (entries context.now) }
         requires fits { Fits (within (sorts context.now) (item_sorts self.now.items.now)) types (on head.now arg.now) }
         requires few { length (entries context.now) + depth (on head.now arg.now) ≤ 4096 }
