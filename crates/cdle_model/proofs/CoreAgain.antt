@@ -5,7 +5,6 @@ use Rattle.std.specs.Str.{bytes_eq}
 use Rattle.cdle_model.specs.declared.grammar.Sort.{Sort}
 use Rattle.cdle_model.specs.declared.grammar.Sort.TheVariants.{OfTerm, OfType}
 use Rattle.cdle_model.specs.declared.grammar.Class.{Class}
-use Rattle.cdle_model.specs.declared.grammar.Class.TheVariants.{Kind, Ty, Term}
 use Rattle.cdle_model.specs.declared.grammar.Form.{Form}
 use Rattle.cdle_model.specs.declared.grammar.Piece.{Piece}
 use Rattle.cdle_model.specs.declared.grammar.CoreWanted.{CoreWanted}
@@ -14,7 +13,7 @@ use Rattle.cdle_model.specs.Trees.{Tree}
 use Rattle.cdle_model.specs.Forms as forms
 use Rattle.cdle_model.specs.Forms.{Written, def_item, type_item, name_of}
 use Rattle.cdle_model.specs.CoreTokens.{Opens, Closes, Word, Token}
-use Rattle.cdle_model.specs.CoreGrammar.{form_of, has_forms, names_of, pieces, made, look_up, item_words, item_pieces, item_parts, made_item}
+use Rattle.cdle_model.specs.CoreGrammar.{form_of, names_of, pieces, made, look_up, item_words, item_pieces, item_parts, made_item}
 use Rattle.cdle_model.specs.Classes.{item_sort}
 use Rattle.cdle_model.specs.CoreNames.{Name, Names, behind, stands, same_sort, is_star, with_item, with_items}
 use Rattle.cdle_model.specs.CoreText.{Reads, star, name, form, ReadsPieces, end, bind, part, inner, Stands, ReadsItem, ReadsItems, ReadsFile}
@@ -47,16 +46,9 @@ word_again : (last left at : ℕ) (scope : Names) (c : Class) (s : Sort) (w : Li
 unfolding part_with leaf
 word_again last left at scope c s w t ts n e h = ap (λ (o : Option Sort). word_with at scope c o w ts) n ∙ rw (e, h, sort_again s) refl
 
--- a class that has a form may stand in parentheses
-pub form_known : (c : Class) (w : List ℕ) (f : Form) → form_of c w ≡ Some f → has_forms c ≡ true
-form_known Kind w f e = absurd cc
-form_known Ty w f e = refl
-form_known Term w f e = refl
-
-part_opens : (last left at : ℕ) (scope : Names) (c : Class) (ts : List Token) → has_forms c ≡ true
-    → part_at last (suc left) scope c ((at, Opens) ∷ ts) ≡ form_with (part_at last left) last left scope c ts
+part_opens : (last left at : ℕ) (scope : Names) (c : Class) (ts : List Token) → part_at last (suc left) scope c ((at, Opens) ∷ ts) ≡ form_with (part_at last left) last left scope c ts
 unfolding part_with inside
-part_opens last left at scope c ts e = rw e refl
+part_opens last left at scope c ts = refl
 
 form_parts : (read : Reader) (last left : ℕ) (scope : Names) (c : Class) (ts : List Token) (f : Form) (next : List Token) (us : List Tree) (shut rest : List Token)
     → form_at last left c ts ≡ Ok (f, next) → pieces_with read last left scope None (pieces f) next ≡ Ok (us, shut) → close_at last left shut ≡ Ok rest → form_with read last left scope c ts ≡ Ok (made f us, rest)
@@ -68,7 +60,7 @@ mutual
   part_again {left} {scope} {c} last (star {at = at} {w = w} {ts = ts} n e) = star_again last left at scope c w ts n e
   part_again {left} {scope} {c} last (name {s = s} {at = at} {w = w} {t = t} {ts = ts} n e h) = word_again last left at scope c s w t ts n e h
   part_again {scope = scope} {c} last (form {left = left} {at = at} {from = from} {to = to} {w = w} {f = f} {us = us} {ts = ts} {rest = rest} e h) =
-      part_opens last left at scope c ((from, Word w) ∷ ts) (form_known c w f e)
+      part_opens last left at scope c ((from, Word w) ∷ ts)
       ∙ form_parts (part_at last left) last left scope c ((from, Word w) ∷ ts) f ts us ((to, Closes) ∷ rest) rest (form_again last left from c w f ts e) (pieces_again last h) (close_again last left to rest)
 
   pieces_again : {left : ℕ} {scope : Names} {binder : Option Name} {ps : List Piece} {ts : List Token} {us : List Tree} {rest : List Token} → (last : ℕ) → ReadsPieces Stands left scope binder ps ts us rest → pieces_with (part_at last left) last left scope binder ps ts ≡ Ok (us, rest)

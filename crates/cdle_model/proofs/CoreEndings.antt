@@ -10,11 +10,11 @@ use Rattle.cdle_model.specs.declared.grammar.Piece.{Piece}
 use Rattle.cdle_model.specs.declared.grammar.Piece.TheVariants.{Binder, Part, Under}
 use Rattle.cdle_model.specs.declared.grammar.CoreWanted.{CoreWanted}
 use Rattle.cdle_model.specs.CoreTokens.{Lexeme, Opens, Closes, Word, Token}
-use Rattle.cdle_model.specs.CoreGrammar.{form_of, has_forms, names_of, pieces, look_up, item_words, item_pieces}
+use Rattle.cdle_model.specs.CoreGrammar.{form_of, names_of, pieces, look_up, item_words, item_pieces}
 use Rattle.cdle_model.specs.CoreNames.{Name, Names, under, behind, is_star}
-use Rattle.cdle_model.specs.declared.grammar.Class.TheVariants.{Kind, Ty, Term}
-use Rattle.cdle_model.specs.declared.grammar.Form.TheVariants.{Pi, Lam}
-use Rattle.cdle_model.specs.CoreWants.{fine, Want, TheWord, MoreItems, ItemWord, ItemName, PartOf, FormOf, Binding, Closing, Step, a_word, a_form, opening, an_item, for_pieces, taken, act, after}
+use Rattle.cdle_model.specs.declared.grammar.Class.TheVariants.{Kind, Ty, Term, Pure, Guide, GuideKind}
+use Rattle.cdle_model.specs.declared.grammar.Form.TheVariants.{Kpit, On, Fst, Ap, GuideOn, GuideKpit}
+use Rattle.cdle_model.specs.CoreWants.{Want, TheWord, MoreItems, ItemWord, ItemName, PartOf, FormOf, Binding, Closing, Step, a_word, a_form, opening, an_item, for_pieces, taken, act, after}
 
 abbrev x : Token
 x = (0, Word (codes "x"))
@@ -23,6 +23,9 @@ abbrev leaf_of : Class → Token
 leaf_of Kind = (0, Word (codes "*"))
 leaf_of Ty = x
 leaf_of Term = x
+leaf_of Pure = x
+leaf_of Guide = x
+leaf_of GuideKind = (0, Word (codes "*"))
 
 abbrev end_pieces : List Piece → List Token
 end_pieces [] = (0, Closes) ∷ []
@@ -35,6 +38,9 @@ unfolding after act
 part_ends left scope Kind ws ts = refl
 part_ends left scope Ty ws ts = refl
 part_ends left scope Term ws ts = refl
+part_ends left scope Pure ws ts = refl
+part_ends left scope Guide ws ts = refl
+part_ends left scope GuideKind ws ts = refl
 
 pieces_end : (left : ℕ) (scope : Names) (binder : Option Name) (ps : List Piece) (ws : List Want) → after (for_pieces left scope binder ps ++ ws) (end_pieces ps) ≡ Some ws
 unfolding after act
@@ -51,7 +57,7 @@ Fit (MoreItems known ∷ ws) = ws ≡ []
 Fit (ItemWord known ∷ ws) = ws ≡ []
 Fit (ItemName known s ∷ ws) = ws ≡ []
 Fit (PartOf left scope c ∷ ws) = Fit ws
-Fit (FormOf left scope c ∷ ws) = (has_forms c ≡ true) × Fit ws
+Fit (FormOf left scope c ∷ ws) = Fit ws
 Fit (Binding left scope s ps ∷ ws) = Fit ws
 Fit (Closing left ∷ ws) = Fit ws
 
@@ -71,15 +77,21 @@ append_pieces left scope binder (Under c ∷ ps) ws r = part_ends left (under bi
 
 -- what goes on from a form's opening to its end
 form_end : Class → List Token
-form_end Kind = []
-form_end Ty = (0, Word (codes "pi")) ∷ end_pieces (pieces Pi)
-form_end Term = (0, Word (codes "lam")) ∷ end_pieces (pieces Lam)
+form_end Kind = (0, Word (codes "kpit")) ∷ end_pieces (pieces Kpit)
+form_end Ty = (0, Word (codes "on")) ∷ end_pieces (pieces On)
+form_end Term = (0, Word (codes "fst")) ∷ end_pieces (pieces Fst)
+form_end Pure = (0, Word (codes "ap")) ∷ end_pieces (pieces Ap)
+form_end Guide = (0, Word (codes "on")) ∷ end_pieces (pieces GuideOn)
+form_end GuideKind = (0, Word (codes "kpit")) ∷ end_pieces (pieces GuideKpit)
 
-form_ends : (left : ℕ) (scope : Names) (c : Class) (ws : List Want) (r : List Token) → has_forms c ≡ true → after (FormOf left scope c ∷ ws) (form_end c ++ r) ≡ after ws r
+form_ends : (left : ℕ) (scope : Names) (c : Class) (ws : List Want) (r : List Token) → after (FormOf left scope c ∷ ws) (form_end c ++ r) ≡ after ws r
 unfolding after act form_end
-form_ends left scope Kind ws r e = absurd cc
-form_ends left scope Ty ws r e = append_pieces left scope None (pieces Pi) ws r
-form_ends left scope Term ws r e = append_pieces left scope None (pieces Lam) ws r
+form_ends left scope Kind ws r = append_pieces left scope None (pieces Kpit) ws r
+form_ends left scope Ty ws r = append_pieces left scope None (pieces On) ws r
+form_ends left scope Term ws r = append_pieces left scope None (pieces Fst) ws r
+form_ends left scope Pure ws r = append_pieces left scope None (pieces Ap) ws r
+form_ends left scope Guide ws r = append_pieces left scope None (pieces GuideOn) ws r
+form_ends left scope GuideKind ws r = append_pieces left scope None (pieces GuideKpit) ws r
 
 same_bytes : (w : List ℕ) → bytes_eq w w ≡ true
 same_bytes [] = refl
@@ -102,7 +114,7 @@ can_end (MoreItems known ∷ ws) f = ([], known, rw f refl)
 can_end (ItemWord known ∷ ws) f = let h = item_ends known OfTerm in ((0, Word (codes "def")) ∷ h.0, h.1, rw f h.2)
 can_end (ItemName known s ∷ ws) f = let h = item_ends known s in (h.0, h.1, rw f h.2)
 can_end (PartOf left scope c ∷ ws) f = let h = can_end ws f in ends_after (PartOf left scope c) ws (leaf_of c ∷ []) h.0 h.1 (λ r. part_ends left scope c ws r) h.2
-can_end (FormOf left scope c ∷ ws) f = let h = can_end ws f.1 in ends_after (FormOf left scope c) ws (form_end c) h.0 h.1 (λ r. form_ends left scope c ws r f.0) h.2
+can_end (FormOf left scope c ∷ ws) f = let h = can_end ws f in ends_after (FormOf left scope c) ws (form_end c) h.0 h.1 (λ r. form_ends left scope c ws r) h.2
 can_end (Binding left scope s ps ∷ ws) f = let h = can_end ws f in ends_after (Binding left scope s ps) ws (x ∷ end_pieces ps) h.0 h.1 (λ r. append_pieces left scope (Some (record { text = codes "x"; sort = s })) ps ws r) h.2
 can_end (Closing left ∷ ws) f = let h = can_end ws f in ends_after (Closing left) ws ((0, Closes) ∷ []) h.0 h.1 (λ r. refl) h.2
 
@@ -127,10 +139,9 @@ form_fit : (left : ℕ) (scope : Names) (o : Option Form) (ws : List Want) → F
 form_fit left scope (Some f) ws h = for_pieces_fit left scope None (pieces f) ws h
 form_fit left scope None ws h = tt
 
-opening_fit : (left : ℕ) (scope : Names) (c : Class) (ws : List Want) (b : Bool) → has_forms c ≡ b → Fit ws → LeavesFit ws (cond b (fine (opening left scope c)) None)
-opening_fit left scope c ws false e f = tt
-opening_fit zero scope c ws true e f = (e, f)
-opening_fit (suc left) scope c ws true e f = (e, f)
+opening_fit : (left : ℕ) (scope : Names) (c : Class) (ws : List Want) → Fit ws → Fit (opening left scope c ++ ws)
+opening_fit zero scope c ws f = f
+opening_fit (suc left) scope c ws f = f
 
 item_fit : (known : List Name) (o : Option Sort) → LeavesFit [] (an_item known o)
 item_fit known None = tt
@@ -156,9 +167,9 @@ act_fit (ItemName known OfType) ws (Word w) f = if_fit ws (is_star w) None _ tt 
 act_fit (ItemName known s) ws Opens f = tt
 act_fit (ItemName known s) ws Closes f = tt
 act_fit (PartOf left scope c) ws (Word w) f = word_fit scope (names_of c) w ws f
-act_fit (PartOf left scope c) ws Opens f = opening_fit left scope c ws (has_forms c) refl f
+act_fit (PartOf left scope c) ws Opens f = opening_fit left scope c ws f
 act_fit (PartOf left scope c) ws Closes f = tt
-act_fit (FormOf left scope c) ws (Word w) f = form_fit left scope (form_of c w) ws f.1
+act_fit (FormOf left scope c) ws (Word w) f = form_fit left scope (form_of c w) ws f
 act_fit (FormOf left scope c) ws Opens f = tt
 act_fit (FormOf left scope c) ws Closes f = tt
 act_fit (Binding left scope s ps) ws (Word w) f = if_fit ws (is_star w) None _ tt (for_pieces_fit left scope (Some (record { text = w; sort = s })) ps ws f)

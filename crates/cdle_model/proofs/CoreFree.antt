@@ -13,7 +13,7 @@ use Rattle.cdle_model.specs.Trees.{Tree}
 use Rattle.cdle_model.specs.Forms as forms
 use Rattle.cdle_model.specs.Forms.{Written, def_item, type_item, name_of}
 use Rattle.cdle_model.specs.CoreTokens.{Lexeme, Opens, Closes, Word, Token}
-use Rattle.cdle_model.specs.CoreGrammar.{form_of, has_forms, names_of, pieces, look_up, item_words, item_pieces, made_item}
+use Rattle.cdle_model.specs.CoreGrammar.{form_of, names_of, pieces, look_up, item_words, item_pieces, made_item}
 use Rattle.cdle_model.specs.Classes.{item_sort}
 use Rattle.cdle_model.specs.CoreNames.{Name, Names, under, behind, stands, is_star, with_item, with_items}
 use Rattle.std.proofs.Common.{◌≤◌, ◌+◌, arith}
@@ -21,7 +21,6 @@ use Rattle.std.proofs.lemmas.List.{append-nil}
 use Rattle.cdle_model.specs.CoreWants.{Want, TheWord, MoreItems, ItemWord, ItemName, PartOf, FormOf, Binding, Closing, Wrong, Step, complaint, a_word, a_form, opening, an_item, for_pieces, taken, act, after, start}
 use Rattle.cdle_model.specs.CoreText.{Reads, star, name, form, ReadsPieces, end, bind, part, inner, Free, ReadsItem, ReadsItems, IsText}
 use Rattle.cdle_model.proofs.CoreReads.{item_made}
-use Rattle.cdle_model.proofs.CoreAgain.{form_known}
 
 -- ---- a text is taken to its end
 
@@ -38,10 +37,10 @@ form_after : (left from : ℕ) (scope : Names) (c : Class) (w : List ℕ) (f : F
 unfolding after act
 form_after left from scope c w f ws ts e = ap (λ (o : Option Form). taken (a_form left scope o) (λ front. after (front ++ ws) ts)) e
 
-opens_after : (left at : ℕ) (scope : Names) (c : Class) (ws : List Want) (ts : List Token) (x : Option (List Want)) → has_forms c ≡ true → ((l : ℕ) → after (FormOf l scope c ∷ ws) ts ≡ x) → after (PartOf left scope c ∷ ws) ((at, Opens) ∷ ts) ≡ x
+opens_after : (left at : ℕ) (scope : Names) (c : Class) (ws : List Want) (ts : List Token) (x : Option (List Want)) → ((l : ℕ) → after (FormOf l scope c ∷ ws) ts ≡ x) → after (PartOf left scope c ∷ ws) ((at, Opens) ∷ ts) ≡ x
 unfolding after act
-opens_after zero at scope c ws ts x e h = rw e (h zero)
-opens_after (suc left) at scope c ws ts x e h = rw e (h left)
+opens_after zero at scope c ws ts x h = h zero
+opens_after (suc left) at scope c ws ts x h = h left
 
 binder_after : (left at : ℕ) (scope : Names) (s : Sort) (ps : List Piece) (w : List ℕ) (ws : List Want) (ts : List Token) → is_star w ≡ false
     → after (Binding left scope s ps ∷ ws) ((at, Word w) ∷ ts) ≡ after (for_pieces left scope (Some (record { text = w; sort = s })) ps ++ ws) ts
@@ -57,7 +56,7 @@ mutual
   part_after {c = c} (star {at = at} {w = w} {ts = ts} n e) left scope ws = star_after left at scope c w ws ts n e
   part_after {c = c} (name {s = s} {at = at} {w = w} {ts = ts} n e h) left scope ws = name_after left at scope c s w ws ts n e
   part_after {c = c} (form {at = at} {from = from} {to = to} {w = w} {f = f} {ts = ts} {rest = rest} e h) left scope ws =
-      opens_after left at scope c ws ((from, Word w) ∷ ts) (after ws rest) (form_known c w f e) (λ l. form_after l from scope c w f ws ts e ∙ pieces_after h l scope None ws ∙ close_after l to ws rest)
+      opens_after left at scope c ws ((from, Word w) ∷ ts) (after ws rest) (λ l. form_after l from scope c w f ws ts e ∙ pieces_after h l scope None ws ∙ close_after l to ws rest)
 
   pieces_after : {l : ℕ} {s : Names} {b : Option Name} {ps : List Piece} {ts : List Token} {us : List Tree} {rest : List Token} → ReadsPieces Free l s b ps ts us rest
       → (left : ℕ) (scope : Names) (binder : Option Name) (ws : List Want) → after (for_pieces left scope binder ps ++ ws) ts ≡ after (Closing left ∷ ws) rest
@@ -267,9 +266,7 @@ step_fills (ItemName known s) ws at (Word w) ts next wrong e h =
 step_fills (ItemName known s) ws at Opens ts next wrong e h = absurd cc
 step_fills (ItemName known s) ws at Closes ts next wrong e h = absurd cc
 step_fills (PartOf left scope c) ws at (Word w) ts next wrong e h = a_word_fills left at scope c w ws ts next wrong (names_of c) refl e h
-step_fills (PartOf left scope c) ws at Opens ts next wrong e h =
-    let k = if_next (has_forms c) (opening left scope c) next None wrong e in
-    opening_fills left at scope c ws ts (rw k.1 at h)
+step_fills (PartOf left scope c) ws at Opens ts next wrong e h = opening_fills left at scope c ws ts (rw (next_is (opening left scope c) next None wrong e) at h)
 step_fills (PartOf left scope c) ws at Closes ts next wrong e h = absurd cc
 step_fills (FormOf left scope c) ws at (Word w) ts next wrong e h = a_form_fills left at scope c w ws ts next wrong (form_of c w) refl e h
 step_fills (FormOf left scope c) ws at Opens ts next wrong e h = absurd cc

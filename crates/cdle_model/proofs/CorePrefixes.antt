@@ -4,7 +4,7 @@ use Rattle.cdle_model.specs.declared.grammar.CoreWanted.{CoreWanted}
 use Rattle.cdle_model.specs.CoreTokens.{Token}
 use Rattle.cdle_model.specs.CoreFaults.{Fault, BadText, TooDeep, passes_nesting}
 use Rattle.cdle_model.specs.CoreNames.{Name}
-use Rattle.cdle_model.specs.CoreWants.{Want, TheWord, MoreItems, ItemWord, ItemName, PartOf, FormOf, Binding, Closing, word_of, left_of, Wrong, NotBound, OtherClass, Step, goes_on, taken, act, ended, run, after, start, place, NoneGoesOn, IsFirstBadPlace}
+use Rattle.cdle_model.specs.CoreWants.{Want, TheWord, MoreItems, ItemWord, ItemName, PartOf, FormOf, Binding, Closing, word_of, left_of, Wrong, NotBound, OtherClass, Step, goes_on, taken, act, ended, run, after, start, place, CanGoOn, NoneGoesOn, IsFirstBadPlace}
 use Rattle.cdle_model.proofs.CoreEndings.{Fit, can_end, fit_after}
 use Rattle.cdle_model.proofs.CoreFree.{text_whole, whole_text}
 
@@ -133,16 +133,21 @@ none_goes_on known front (t ∷ ts) w ws e f = λ text.
     let same : after (start known) ((front ++ t ∷ []) ++ text.0) ≡ after (start known) (front ++ t ∷ text.0) = ap (after (start known)) (append_assoc front (t ∷ []) text.0) in
     cc (none, whole, same)
 
+-- a front that is taken goes on to a whole text
+pub front_goes_on : (known : List Name) (front : List Token) (mid : List Want) → after (start known) front ≡ Some mid → CanGoOn front
+front_goes_on known front mid e =
+    let more = goes_on_to_whole (start known) front mid refl e in
+    (more.0, whole_text known more.1 (front ++ more.0) more.2)
+
 pub bad_place : (end : ℕ) (known : List Name) (ts : List Token) (at : ℕ) (what : CoreWanted) → run end (start known) ts ≡ Err (BadText at what) → IsFirstBadPlace end known ts at what
 bad_place end known ts at what e =
     let b = bad_is_first end (start known) ts at what e in
-    let more = goes_on_to_whole (start known) b.front (b.want ∷ b.wants) refl b.wanted in
     record {
       front = b.front;
       others = b.others;
       parts = b.parts;
       here = b.here;
-      goes_on = (more.0, whole_text known more.1 (b.front ++ more.0) more.2);
+      goes_on = front_goes_on known b.front (b.want ∷ b.wants) b.wanted;
       stops = none_goes_on known b.front b.others b.want b.wants b.wanted b.stops;
       want = b.want;
       wants = b.wants;

@@ -15,7 +15,7 @@ use Rattle.cdle_model.specs.Forms as forms
 use Rattle.cdle_model.specs.Forms.{Written, def_item, type_item, name_of}
 use Rattle.cdle_model.specs.CoreTokens.{Opens, Closes, Word, Token}
 use Rattle.cdle_model.specs.CoreFaults.{Fault, BadText, WrongClass}
-use Rattle.cdle_model.specs.CoreGrammar.{form_of, has_forms, names_of, pieces, made, look_up, item_words, item_pieces, item_parts, made_item}
+use Rattle.cdle_model.specs.CoreGrammar.{form_of, names_of, pieces, made, look_up, item_words, item_pieces, item_parts, made_item}
 use Rattle.cdle_model.specs.Classes.{item_sort}
 use Rattle.cdle_model.specs.CoreNames.{Name, Names, under, behind, stands, same_sort, is_star, with_item}
 use Rattle.cdle_model.specs.CoreText.{Meaning, Reads, star, name, form, ReadsPieces, end, bind, part, inner, Stands, ReadsItem, ReadsItems, ReadsFile}
@@ -23,7 +23,7 @@ use Rattle.cdle_model.specs.CoreReading.{◌>>=◌, Read, Reader, name_at, close
 
 -- ---- parts
 
-bind_ok : {A B : Type 0} (r : Result A Fault) (f : A → Result B Fault) (y : B) → (r >>= f) ≡ Ok y → (x : A) × (r ≡ Ok x) × (f x ≡ Ok y)
+pub bind_ok : {A B : Type 0} (r : Result A Fault) (f : A → Result B Fault) (y : B) → (r >>= f) ≡ Ok y → (x : A) × (r ≡ Ok x) × (f x ≡ Ok y)
 bind_ok (Ok x) f y e = (x, refl, e)
 bind_ok (Err d) f y e = absurd cc
 
@@ -125,17 +125,13 @@ form_read last left at read right scope c ts x e =
     let closed = subst (λ (r : List Token). ReadsPieces Stands left scope None (pieces a.0.0) a.0.1 b.0.0 r) k.1 us in
     subst (λ (y : Tree × List Token). Reads Stands (suc left) scope c ((at, Opens) ∷ ts) y.0 y.1) same (subst (λ (r : List Token). Reads Stands (suc left) scope c ((at, Opens) ∷ r) (made a.0.0 b.0.0) d.0) (sym f.2) (form f.3 closed))
 
-only_forms : {A : Type 0} (b : Bool) (r : Result A Fault) (d : Fault) (x : A) → cond b r (Err d) ≡ Ok x → r ≡ Ok x
-only_forms true r d x e = e
-only_forms false r d x e = absurd cc
-
 part_reads : (last left : ℕ) → IsRight left (part_at last left)
 unfolding part_with inside leaf
 part_reads last left scope c [] x e = absurd cc
 part_reads last left scope c ((at, Word w) ∷ ts) x e = word_reads at left scope c w ts x (names_of c) (is_star w) refl refl e
 part_reads last left scope c ((at, Closes) ∷ ts) x e = absurd cc
 part_reads last zero scope c ((at, Opens) ∷ ts) x e = absurd cc
-part_reads last (suc left) scope c ((at, Opens) ∷ ts) x e = form_read last left at (part_at last left) (part_reads last left) scope c ts x (only_forms (has_forms c) _ _ x e)
+part_reads last (suc left) scope c ((at, Opens) ∷ ts) x e = form_read last left at (part_at last left) (part_reads last left) scope c ts x e
 
 -- ---- items
 
@@ -168,7 +164,7 @@ pub item_made : {Means : Meaning} {left : ℕ} {scope : Names} {ts : List Token}
 item_made OfTerm x (part h (part g end)) = record { named = refl; sorted = refl; parts = refl }
 item_made OfType x (part h (part g end)) = record { named = refl; sorted = refl; parts = refl }
 
-item_reads : (last : ℕ) (names : List Name) (ts : List Token) (y : Written × List Token) → item_at last names ts ≡ Ok y → ReadsItem Stands 1023 names ts y.0 y.1
+pub item_reads : (last : ℕ) (names : List Name) (ts : List Token) (y : Written × List Token) → item_at last names ts ≡ Ok y → ReadsItem Stands 1023 names ts y.0 y.1
 unfolding item_at
 item_reads last names ts y e =
     let a = bind_ok (open_at last ts) _ y e in

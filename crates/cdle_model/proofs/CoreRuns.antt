@@ -16,11 +16,11 @@ use Rattle.cdle_model.specs.Trees.{Tree}
 use Rattle.cdle_model.specs.Forms.{Written}
 use Rattle.cdle_model.specs.CoreTokens.{Opens, Closes, Word, Token}
 use Rattle.cdle_model.specs.CoreFaults.{Fault, BadText, WrongClass, TooDeep, wanted_part}
-use Rattle.cdle_model.specs.CoreGrammar.{form_of, has_forms, names_of, pieces, made, look_up, item_words, item_pieces, made_item}
+use Rattle.cdle_model.specs.CoreGrammar.{form_of, names_of, pieces, made, look_up, item_words, item_pieces, made_item}
 use Rattle.cdle_model.specs.CoreNames.{Name, Names, under, behind, stands, same_sort, is_star, with_item, with_items}
 use Rattle.cdle_model.specs.CoreText.{Stands, ReadsFile}
 use Rattle.cdle_model.specs.CoreReading.{◌>>=◌, Read, Reader, name_at, close_at, found_form, form_at, known, word_with, leaf, pieces_with, part_with, form_with, inside, part_at, open_at, found_sort, sort_at, item_at, word_at, head_at, Items}
-use Rattle.cdle_model.specs.CoreWants.{fine, Want, TheWord, MoreItems, ItemWord, ItemName, PartOf, FormOf, Binding, Closing, for_pieces, OtherClass, complaint, a_word, a_form, an_item, goes_on, act, run, start}
+use Rattle.cdle_model.specs.CoreWants.{Want, TheWord, MoreItems, ItemWord, ItemName, PartOf, FormOf, Binding, Closing, for_pieces, OtherClass, complaint, a_word, a_form, an_item, goes_on, act, run, start}
 use Rattle.cdle_model.proofs.CoreAgain.{file_again}
 
 abbrev the_fault : Fault → Result (List Token) Fault
@@ -129,13 +129,6 @@ run_word end at scope c w ws ts (Some s) false e = rw e (found (stands w scope))
 some_left : (n : ℕ) → eqb (suc n) 0 ≡ false
 some_left n = grind (arith, nat_tests)
 
-run_opens : (end left at : ℕ) (scope : Names) (c : Class) (ws : List Want) (ts : List Token) (b : Bool)
-    → run end (FormOf left scope c ∷ ws) ts ≡ (form_with (part_at end left) end left scope c ts >>= λ x. run end ws x.1)
-    → goes_on at (wanted_part c) (cond b (fine (FormOf left scope c ∷ [])) None) (λ front. run end (front ++ ws) ts)
-    ≡ (cond b (form_with (part_at end left) end left scope c ts) (Err (BadText at (wanted_part c))) >>= λ x. run end ws x.1)
-run_opens end left at scope c ws ts true e = e
-run_opens end left at scope c ws ts false e = refl
-
 -- the tree reader stops where the tokens, taken one by one, have their first fault
 run_part : (end left : ℕ) → IsExact end left (part_at end left)
 unfolding run act part_with inside leaf
@@ -143,7 +136,7 @@ run_part end left scope c ws [] = refl
 run_part end left scope c ws ((at, Word w) ∷ ts) = run_word end at scope c w ws ts (names_of c) (is_star w) refl
 run_part end left scope c ws ((at, Closes) ∷ ts) = refl
 run_part end zero scope c ws ((at, Opens) ∷ ts) = refl
-run_part end (suc left) scope c ws ((at, Opens) ∷ ts) = rw (some_left left) (run_opens end left at scope c ws ts (has_forms c) (run_inside end left (part_at end left) (run_part end left) scope c ws ts))
+run_part end (suc left) scope c ws ((at, Opens) ∷ ts) = rw (some_left left) (run_inside end left (part_at end left) (run_part end left) scope c ws ts)
 
 -- ---- items
 
@@ -190,7 +183,7 @@ run_item_name end names s ((at, Opens) ∷ ts) = refl
 run_item_name end names s ((at, Closes) ∷ ts) = refl
 
 -- an item and the items after it
-run_item : (end : ℕ) (names : List Name) (ts : List Token) → (ts ≡ [] → ⊥) → run end (MoreItems names ∷ []) ts ≡ (item_at end names ts >>= λ i. run end (MoreItems (with_item i.0 names) ∷ []) i.1)
+pub run_item : (end : ℕ) (names : List Name) (ts : List Token) → (ts ≡ [] → ⊥) → run end (MoreItems names ∷ []) ts ≡ (item_at end names ts >>= λ i. run end (MoreItems (with_item i.0 names) ∷ []) i.1)
 unfolding item_at
 run_item end names ts h = run_open end names ts h
     ∙ bind_step (open_at end ts) _ (λ inner. sort_at end inner >>= λ s. name_at end 1023 s.1 >>= λ x. pieces_with (part_at end 1023) end 1023 (behind names) None (item_pieces s.0) x.1 >>= λ us. close_at end 1023 us.1 >>= λ r. done (made_item s.0 x.0 us.0) r) (λ i. run end (MoreItems (with_item i.0 names) ∷ []) i.1)
@@ -223,7 +216,7 @@ run_the_word end word what ws ((at, Word w) ∷ ts) = words (bytes_eq w word)
 run_the_word end word what ws ((at, Opens) ∷ ts) = refl
 run_the_word end word what ws ((at, Closes) ∷ ts) = refl
 
-run_head : (end : ℕ) (names : List Name) (ts : List Token) → run end (start names) ts ≡ (head_at end ts >>= λ r. run end (MoreItems names ∷ []) r)
+pub run_head : (end : ℕ) (names : List Name) (ts : List Token) → run end (start names) ts ≡ (head_at end ts >>= λ r. run end (MoreItems names ∷ []) r)
 unfolding head_at
 run_head end names ts = run_the_word end (codes "core") wanted.Core _ ts
     ∙ bind_step (word_at end (codes "core") wanted.Core ts) _ (λ r. word_at end (codes "1") wanted.One r) (λ r. run end (MoreItems names ∷ []) r) (λ r. run_the_word end (codes "1") wanted.One _ r)

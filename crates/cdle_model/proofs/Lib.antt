@@ -11,6 +11,8 @@ pub mod CoreAgain
 pub mod CoreRuns
 pub mod CoreFree
 pub mod CorePrefixes
+pub mod CoreWhole
+pub mod CoreDeep
 pub mod CoreEndings
 pub mod Renaming
 pub mod Shifts

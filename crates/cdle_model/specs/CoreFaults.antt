@@ -18,6 +18,9 @@ abbrev pub wanted_part : Class → CoreWanted
 wanted_part class.Kind = wanted.Kind
 wanted_part class.Ty = wanted.Ty
 wanted_part class.Term = wanted.Term
+wanted_part class.Pure = wanted.Pure
+wanted_part class.Guide = wanted.Guide
+wanted_part class.GuideKind = wanted.GuideKind
 
 -- a parenthesis that opens where no more may be open
 abbrev pub passes_nesting : ℕ → Lexeme → Bool

@@ -1,22 +1,25 @@
 -- The grammar of Core text as a table: which forms there are, what stands in each, and the tree that each makes.
-use Rattle.std.specs.Prelude.{ℕ, nat_lt, Bool, length, List, [], ◌∷◌, if◌then◌else◌, codes, Option, Some, None}
+use Rattle.std.specs.Prelude.{ℕ, List, [], ◌∷◌, if◌then◌else◌, codes, Option, Some, None}
 use Rattle.std.specs.Str.{bytes_eq}
 use Rattle.cdle_model.specs.Trees.{Tree}
-use Rattle.cdle_model.specs.Forms.{star, pi, allt, lam, xlam, Written, def_item, type_item}
+use Rattle.cdle_model.specs.Forms.{star, kpi, kpit, pi, all, allt, at_, on, iota, eq, tlam, xtlam, guide_tlam, guide_xtlam, fn, ap, lam, elam, xlam, app, eapp, tapp, pair, fst, snd, beta, rho, phi, delta, Written, def_item, type_item}
 use Rattle.cdle_model.specs.declared.grammar.Sort.{Sort}
 use Rattle.cdle_model.specs.declared.grammar.Sort.TheVariants.{OfTerm, OfType}
 use Rattle.cdle_model.specs.declared.grammar.Class.{Class}
-use Rattle.cdle_model.specs.declared.grammar.Class.TheVariants.{Kind, Ty, Term}
+use Rattle.cdle_model.specs.declared.grammar.Class.TheVariants.{Kind, Ty, Term, Pure, Guide, GuideKind}
 use Rattle.cdle_model.specs.declared.grammar.Form.{Form}
-use Rattle.cdle_model.specs.declared.grammar.Form.TheVariants.{Pi, Allt, Lam, Xlam}
+use Rattle.cdle_model.specs.declared.grammar.Form.TheVariants.{Kpi, Kpit, Pi, All, Allt, Tlam, Xtlam, At, On, Iota, Eq, Lam, Elam, Xlam, App, Eapp, Tapp, Pair, Fst, Snd, Beta, Rho, Phi, Delta, Function, Ap, GuidePi, GuideAll, GuideAllt, GuideTlam, GuideXtlam, GuideAt, GuideOn, GuideIota, GuideEq, GuideKpi, GuideKpit}
 use Rattle.cdle_model.specs.declared.grammar.Piece.{Piece}
 use Rattle.cdle_model.specs.declared.grammar.Piece.TheVariants.{Binder, Part, Under}
 
 -- the form words of a class
 abbrev pub form_words : Class → List (List ℕ × Form)
-form_words Kind = []
-form_words Ty = (codes "pi", Pi) ∷ (codes "allt", Allt) ∷ []
-form_words Term = (codes "lam", Lam) ∷ (codes "xlam", Xlam) ∷ []
+form_words Kind = (codes "kpi", Kpi) ∷ (codes "kpit", Kpit) ∷ []
+form_words Ty = (codes "pi", Pi) ∷ (codes "all", All) ∷ (codes "allt", Allt) ∷ (codes "tlam", Tlam) ∷ (codes "xtlam", Xtlam) ∷ (codes "at", At) ∷ (codes "on", On) ∷ (codes "iota", Iota) ∷ (codes "eq", Eq) ∷ []
+form_words Term = (codes "lam", Lam) ∷ (codes "elam", Elam) ∷ (codes "xlam", Xlam) ∷ (codes "app", App) ∷ (codes "eapp", Eapp) ∷ (codes "tapp", Tapp) ∷ (codes "pair", Pair) ∷ (codes "fst", Fst) ∷ (codes "snd", Snd) ∷ (codes "beta", Beta) ∷ (codes "rho", Rho) ∷ (codes "phi", Phi) ∷ (codes "delta", Delta) ∷ []
+form_words Pure = (codes "fn", Function) ∷ (codes "ap", Ap) ∷ []
+form_words Guide = (codes "pi", GuidePi) ∷ (codes "all", GuideAll) ∷ (codes "allt", GuideAllt) ∷ (codes "tlam", GuideTlam) ∷ (codes "xtlam", GuideXtlam) ∷ (codes "at", GuideAt) ∷ (codes "on", GuideOn) ∷ (codes "iota", GuideIota) ∷ (codes "eq", GuideEq) ∷ []
+form_words GuideKind = (codes "kpi", GuideKpi) ∷ (codes "kpit", GuideKpit) ∷ []
 
 -- the first entry with that word
 abbrev pub look_up : {A : Type 0} → List ℕ → List (List ℕ × A) → Option A
@@ -26,29 +29,94 @@ look_up w (e ∷ es) = if bytes_eq w e.0 then Some e.1 else look_up w es
 abbrev pub form_of : Class → List ℕ → Option Form
 form_of c w = look_up w (form_words c)
 
--- whether a part of that class may stand in parentheses
-abbrev pub has_forms : Class → Bool
-has_forms c = nat_lt 0 (length (form_words c))
-
--- what a name stands for where a part of that class is wanted; a kind has `*` in the names' place
+-- what a name stands for where a part of that class is wanted; the other classes have `*` in the names' place
 abbrev pub names_of : Class → Option Sort
 names_of Kind = None
 names_of Ty = Some OfType
 names_of Term = Some OfTerm
+names_of Pure = Some OfTerm
+names_of Guide = Some OfType
+names_of GuideKind = None
 
 -- what stands in a form, behind its word
 abbrev pub pieces : Form → List Piece
+pieces Kpi = Binder OfTerm ∷ Part Ty ∷ Under Kind ∷ []
+pieces Kpit = Binder OfType ∷ Part Kind ∷ Under Kind ∷ []
 pieces Pi = Binder OfTerm ∷ Part Ty ∷ Under Ty ∷ []
+pieces All = Binder OfTerm ∷ Part Ty ∷ Under Ty ∷ []
 pieces Allt = Binder OfType ∷ Part Kind ∷ Under Ty ∷ []
+pieces Tlam = Binder OfTerm ∷ Part Ty ∷ Under Ty ∷ []
+pieces Xtlam = Binder OfType ∷ Part Kind ∷ Under Ty ∷ []
+pieces At = Part Ty ∷ Part Term ∷ []
+pieces On = Part Ty ∷ Part Ty ∷ []
+pieces Iota = Binder OfTerm ∷ Part Ty ∷ Under Ty ∷ []
+pieces Eq = Part Pure ∷ Part Pure ∷ []
 pieces Lam = Binder OfTerm ∷ Part Ty ∷ Under Term ∷ []
+pieces Elam = Binder OfTerm ∷ Part Ty ∷ Under Term ∷ []
 pieces Xlam = Binder OfType ∷ Part Kind ∷ Under Term ∷ []
+pieces App = Part Term ∷ Part Term ∷ []
+pieces Eapp = Part Term ∷ Part Term ∷ []
+pieces Tapp = Part Term ∷ Part Ty ∷ []
+pieces Pair = Part Term ∷ Part Term ∷ Binder OfTerm ∷ Under Ty ∷ []
+pieces Fst = Part Term ∷ []
+pieces Snd = Part Term ∷ []
+pieces Beta = Part Pure ∷ Part Pure ∷ []
+pieces Rho = Part Term ∷ Binder OfTerm ∷ Under Guide ∷ Part Ty ∷ Part Term ∷ []
+pieces Phi = Part Term ∷ Part Term ∷ Part Pure ∷ []
+pieces Delta = Part Ty ∷ Part Term ∷ []
+pieces Function = Binder OfTerm ∷ Under Pure ∷ []
+pieces Ap = Part Pure ∷ Part Pure ∷ []
+pieces GuidePi = Binder OfTerm ∷ Part Guide ∷ Under Guide ∷ []
+pieces GuideAll = Binder OfTerm ∷ Part Guide ∷ Under Guide ∷ []
+pieces GuideAllt = Binder OfType ∷ Part GuideKind ∷ Under Guide ∷ []
+pieces GuideTlam = Binder OfTerm ∷ Under Guide ∷ []
+pieces GuideXtlam = Binder OfType ∷ Under Guide ∷ []
+pieces GuideAt = Part Guide ∷ Part Pure ∷ []
+pieces GuideOn = Part Guide ∷ Part Guide ∷ []
+pieces GuideIota = Binder OfTerm ∷ Part Guide ∷ Under Guide ∷ []
+pieces GuideEq = Part Pure ∷ Part Pure ∷ []
+pieces GuideKpi = Binder OfTerm ∷ Part Guide ∷ Under GuideKind ∷ []
+pieces GuideKpit = Binder OfType ∷ Part GuideKind ∷ Under GuideKind ∷ []
 
 -- the class that a form is of
 abbrev pub class_of_form : Form → Class
+class_of_form Kpi = Kind
+class_of_form Kpit = Kind
 class_of_form Pi = Ty
+class_of_form All = Ty
 class_of_form Allt = Ty
+class_of_form Tlam = Ty
+class_of_form Xtlam = Ty
+class_of_form At = Ty
+class_of_form On = Ty
+class_of_form Iota = Ty
+class_of_form Eq = Ty
 class_of_form Lam = Term
+class_of_form Elam = Term
 class_of_form Xlam = Term
+class_of_form App = Term
+class_of_form Eapp = Term
+class_of_form Tapp = Term
+class_of_form Pair = Term
+class_of_form Fst = Term
+class_of_form Snd = Term
+class_of_form Beta = Term
+class_of_form Rho = Term
+class_of_form Phi = Term
+class_of_form Delta = Term
+class_of_form Function = Pure
+class_of_form Ap = Pure
+class_of_form GuidePi = Guide
+class_of_form GuideAll = Guide
+class_of_form GuideAllt = Guide
+class_of_form GuideTlam = Guide
+class_of_form GuideXtlam = Guide
+class_of_form GuideAt = Guide
+class_of_form GuideOn = Guide
+class_of_form GuideIota = Guide
+class_of_form GuideEq = Guide
+class_of_form GuideKpi = GuideKind
+class_of_form GuideKpit = GuideKind
 
 -- the classes of the parts among pieces
 abbrev pub part_classes : List Piece → List Class
@@ -59,16 +127,49 @@ part_classes (Under c ∷ ps) = c ∷ part_classes ps
 
 -- the tree of that form with these parts in written order; other lists of parts are never read
 abbrev pub made : Form → List Tree → Tree
+made Kpi (a ∷ b ∷ []) = kpi a b
+made Kpit (a ∷ b ∷ []) = kpit a b
 made Pi (a ∷ b ∷ []) = pi a b
-made Allt (k ∷ b ∷ []) = allt k b
-made Lam (a ∷ t ∷ []) = lam a t
-made Xlam (k ∷ t ∷ []) = xlam k t
+made All (a ∷ b ∷ []) = all a b
+made Allt (a ∷ b ∷ []) = allt a b
+made Tlam (a ∷ b ∷ []) = tlam a b
+made Xtlam (a ∷ b ∷ []) = xtlam a b
+made At (a ∷ b ∷ []) = at_ a b
+made On (a ∷ b ∷ []) = on a b
+made Iota (a ∷ b ∷ []) = iota a b
+made Eq (a ∷ b ∷ []) = eq a b
+made Lam (a ∷ b ∷ []) = lam a b
+made Elam (a ∷ b ∷ []) = elam a b
+made Xlam (a ∷ b ∷ []) = xlam a b
+made App (a ∷ b ∷ []) = app a b
+made Eapp (a ∷ b ∷ []) = eapp a b
+made Tapp (a ∷ b ∷ []) = tapp a b
+made Pair (a ∷ b ∷ c ∷ []) = pair a b c
+made Fst (a ∷ []) = fst a
+made Snd (a ∷ []) = snd a
+made Beta (a ∷ b ∷ []) = beta a b
+made Rho (a ∷ b ∷ c ∷ d ∷ []) = rho a b c d
+made Phi (a ∷ b ∷ c ∷ []) = phi a b c
+made Delta (a ∷ b ∷ []) = delta a b
+made Function (a ∷ []) = fn a
+made Ap (a ∷ b ∷ []) = ap a b
+made GuidePi (a ∷ b ∷ []) = pi a b
+made GuideAll (a ∷ b ∷ []) = all a b
+made GuideAllt (a ∷ b ∷ []) = allt a b
+made GuideTlam (a ∷ []) = guide_tlam a
+made GuideXtlam (a ∷ []) = guide_xtlam a
+made GuideAt (a ∷ b ∷ []) = at_ a b
+made GuideOn (a ∷ b ∷ []) = on a b
+made GuideIota (a ∷ b ∷ []) = iota a b
+made GuideEq (a ∷ b ∷ []) = eq a b
+made GuideKpi (a ∷ b ∷ []) = kpi a b
+made GuideKpit (a ∷ b ∷ []) = kpit a b
 made f ts = star
 
 -- ---- items
 
 abbrev pub item_words : List (List ℕ × Sort)
-item_words = (codes "def", OfTerm) ∷ []
+item_words = (codes "def", OfTerm) ∷ (codes "type", OfType) ∷ []
 
 -- what stands in an item behind its name
 abbrev pub item_pieces : Sort → List Piece

@@ -12,7 +12,7 @@ use Rattle.cdle_model.specs.declared.grammar.CoreWanted.{CoreWanted}
 use Rattle.cdle_model.specs.declared.grammar.CoreWanted.TheVariants as wanted
 use Rattle.cdle_model.specs.CoreFaults.{Fault, BadText, Unbound, WrongClass, TooDeep, wanted_part, unexpected}
 use Rattle.cdle_model.specs.CoreTokens.{Opens, Closes, Word, Token}
-use Rattle.cdle_model.specs.CoreGrammar.{form_of, has_forms, names_of, pieces, made, look_up, item_words, item_pieces, made_item}
+use Rattle.cdle_model.specs.CoreGrammar.{form_of, names_of, pieces, made, look_up, item_words, item_pieces, made_item}
 use Rattle.cdle_model.specs.CoreNames.{Name, Names, under, behind, stands, same_sort, is_star, with_item}
 
 infixl 10 ◌>>=◌
@@ -94,7 +94,7 @@ form_with read end left scope c ts = do
 -- behind a parenthesis at a place, with the number of those that may still open, itself counted
 unfoldable pub inside : ℕ → ℕ → ℕ → Reader
 inside end zero at scope c ts = Err (TooDeep at)
-inside end (suc left) at scope c ts = if has_forms c then form_with (part_with (inside end left) end) end left scope c ts else Err (BadText at (wanted_part c))
+inside end (suc left) at scope c ts = form_with (part_with (inside end left) end) end left scope c ts
 
 -- a part of a class, inside which so many parentheses may open
 abbrev pub part_at : ℕ → ℕ → Reader
@@ -116,15 +116,20 @@ sort_at end [] = Err (BadText end wanted.Item)
 sort_at end ((at, Word w) ∷ ts) = found_sort at ts (look_up w item_words)
 sort_at end ((at, lexeme) ∷ ts) = Err (BadText at wanted.Item)
 
+-- the parts of an item behind its name, with its closing
+abbrev pub item_behind : ℕ → List Name → Sort → List ℕ → List Token → Read Written
+item_behind end known s x ts = do
+  us ← pieces_with (part_at end 1023) end 1023 (behind known) None (item_pieces s) ts
+  rest ← close_at end 1023 us.1
+  Ok (made_item s x us.0, rest)
+
 -- an item behind items of these names
 unfoldable pub item_at : ℕ → List Name → List Token → Read Written
 item_at end known ts = do
   inner ← open_at end ts
   s ← sort_at end inner
   x ← name_at end 1023 s.1
-  us ← pieces_with (part_at end 1023) end 1023 (behind known) None (item_pieces s.0) x.1
-  rest ← close_at end 1023 us.1
-  Ok (made_item s.0 x.0 us.0, rest)
+  item_behind end known s.0 x.0 x.1
 
 -- a word that must stand there
 unfoldable pub word_at : ℕ → List ℕ → CoreWanted → List Token → Result (List Token) Fault

@@ -1,5 +1,5 @@
 -- The first fault of a Core text: what the grammar wants at each place, and what a token does there.
-use Rattle.std.specs.Prelude.{◌≡◌, ℕ, zero, suc, false, List, [], ◌∷◌, ◌++◌, length, if◌then◌else◌, codes, Option, Some, None, Result, Ok, Err}
+use Rattle.std.specs.Prelude.{◌≡◌, ℕ, zero, suc, ◌+◌, ◌-◌, false, List, [], ◌∷◌, ◌++◌, length, if◌then◌else◌, codes, Option, Some, None, Result, Ok, Err}
 use Rattle.std.specs.Str.{bytes_eq, IsUtf8}
 use Rattle.cdle_model.specs.Trees.{Tree}
 use Rattle.cdle_model.specs.declared.grammar.Sort.{Sort}
@@ -11,7 +11,7 @@ use Rattle.cdle_model.specs.declared.grammar.CoreWanted.{CoreWanted}
 use Rattle.cdle_model.specs.declared.grammar.CoreWanted.TheVariants as wanted
 use Rattle.cdle_model.specs.CoreFaults.{Fault, BadText, Unbound, WrongClass, TooDeep, wanted_part, passes_nesting}
 use Rattle.cdle_model.specs.CoreTokens.{Lexeme, Opens, Closes, Word, Token, tokens}
-use Rattle.cdle_model.specs.CoreGrammar.{form_of, has_forms, names_of, pieces, look_up, item_words, item_pieces}
+use Rattle.cdle_model.specs.CoreGrammar.{form_of, names_of, pieces, look_up, item_words, item_pieces}
 use Rattle.cdle_model.specs.CoreNames.{Name, Names, under, behind, stands, same_sort, is_star}
 use Rattle.cdle_model.specs.CoreText.{IsText}
 
@@ -97,7 +97,7 @@ act (MoreItems known) Opens = fine (ItemWord known ∷ [])
 act (ItemWord known) (Word w) = an_item known (look_up w item_words)
 act (ItemName known s) (Word w) = if is_star w then None else fine (for_pieces 1023 (behind known) None (item_pieces s) ++ MoreItems (record { text = w; sort = s } ∷ known) ∷ [])
 act (PartOf left scope c) (Word w) = a_word scope (names_of c) w
-act (PartOf left scope c) Opens = if has_forms c then fine (opening left scope c) else None
+act (PartOf left scope c) Opens = fine (opening left scope c)
 act (FormOf left scope c) (Word w) = a_form left scope (form_of c w)
 act (Binding left scope s ps) (Word w) = if is_star w then None else fine (for_pieces left scope (Some (record { text = w; sort = s })) ps)
 act (Closing left) Closes = fine []
@@ -158,6 +158,24 @@ CanGoOn front = (more : List Token) × IsText (front ++ more)
 abbrev pub NoneGoesOn : List Token → List Token → Type 0
 NoneGoesOn front [] = ¬ (IsText front)
 NoneGoesOn front (t ∷ ts) = ¬ (CanGoOn (front ++ t ∷ []))
+
+-- so many are open behind a token, where so many are before it
+abbrev pub opened_by : ℕ → Lexeme → ℕ
+opened_by n Opens = n + 1
+opened_by n Closes = n - 1
+opened_by n (Word w) = n
+
+abbrev pub open_behind : ℕ → List Token → ℕ
+open_behind n [] = n
+open_behind n (t ∷ ts) = open_behind (opened_by n t.1) ts
+
+-- a parenthesis opens there, behind a beginning of a text of the grammar in which 1,024 are open
+pub record IsDeepPlace (ts : List Token) (at : ℕ) : Type 0 where
+  pub front : List Token
+  pub others : List Token
+  pub parts : ts ≡ front ++ (at, Opens) ∷ others
+  pub goes_on : CanGoOn front
+  pub full : open_behind 0 front ≡ 1024
 
 -- at the first token after which no text of the grammar continues, or at the end; the word is of what is wanted there first
 pub record IsFirstBadPlace (end : ℕ) (known : List Name) (ts : List Token) (at : ℕ) (what : CoreWanted) : Type 0 where

@@ -23,6 +23,9 @@ wanted_word wanted.Name = codes "name"
 wanted_word wanted.Kind = codes "kind"
 wanted_word wanted.Ty = codes "type"
 wanted_word wanted.Term = codes "term"
+wanted_word wanted.Pure = codes "pure term"
+wanted_word wanted.Guide = codes "guide"
+wanted_word wanted.GuideKind = codes "guide kind"
 wanted_word wanted.Close = codes ")"
 
 abbrev pub count_word : Count → List ℕ

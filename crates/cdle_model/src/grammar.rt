@@ -13,15 +13,51 @@ pub enum Class {
     Kind,
     Ty,
     Term,
+    Pure,
+    Guide,
+    GuideKind,
 }
 
-/// The forms that stand in parentheses, other than items.
+/// The forms that stand in parentheses, other than items. A form of guides or of guide kinds has the word of the type's or the kind's.
 #[derive(Clone, Copy, Debug, PartialEq, Eq)]
 pub enum Form {
+    Kpi,
+    Kpit,
     Pi,
+    All,
     Allt,
+    Tlam,
+    Xtlam,
+    At,
+    On,
+    Iota,
+    Eq,
     Lam,
+    Elam,
     Xlam,
+    App,
+    Eapp,
+    Tapp,
+    Pair,
+    Fst,
+    Snd,
+    Beta,
+    Rho,
+    Phi,
+    Delta,
+    Function,
+    Ap,
+    GuidePi,
+    GuideAll,
+    GuideAllt,
+    GuideTlam,
+    GuideXtlam,
+    GuideAt,
+    GuideOn,
+    GuideIota,
+    GuideEq,
+    GuideKpi,
+    GuideKpit,
 }
 
 /// What stands in a form: a binder, a part, or a part under that binder.
@@ -42,6 +78,9 @@ pub enum CoreWanted {
     Kind,
     Ty,
     Term,
+    Pure,
+    Guide,
+    GuideKind,
     Close,
 }
 

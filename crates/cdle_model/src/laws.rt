@@ -1,11 +1,12 @@
 //! The laws of the definitions. Each is the contract of a function with an empty body.
-ghost use Rattle.std.specs.Prelude.{◌≡◌, ℕ, List, [], false, length};
+ghost use Rattle.std.specs.Prelude.{◌≡◌, ◌⊎◌, ◌++◌, ℕ, List, [], false, length};
+ghost use Rattle.std.specs.Str.{IsUtf8};
 ghost use Rattle.cdle_model.specs.Classes.{AreItems, AreOver};
-ghost use Rattle.cdle_model.specs.CoreFaults.{BadText, Fault};
+ghost use Rattle.cdle_model.specs.CoreFaults.{BadText, Fault, TooDeep};
 ghost use Rattle.cdle_model.specs.CoreNames.{Name, Names, with_items};
 ghost use Rattle.cdle_model.specs.CoreText.{Reads, Says, Stands};
 ghost use Rattle.cdle_model.specs.CoreTokens.{Token, tokens};
-ghost use Rattle.cdle_model.specs.CoreWants.{IsFirstBadPlace, IsFirstFault};
+ghost use Rattle.cdle_model.specs.CoreWants.{IsDeepPlace, IsFirstBadPlace, IsFirstFault};
 ghost use Rattle.cdle_model.specs.Derivation.{AreDerived};
 ghost use Rattle.cdle_model.specs.FirstCheck.{AreFirstItems, accepts, first_check};
 ghost use Rattle.cdle_model.specs.Forms.{Written};
@@ -20,6 +21,12 @@ pub fn one_text_one_tree()
     ensures file { (bytes : List ℕ) (known : List Name) (is js : List Written) → Says bytes known is → Says bytes known js → is ≡ js }
 {}
 
+/// A text in UTF-8 says a list of items, or it has a first fault. That it has not both, and only one of either, is said by the other laws.
+pub fn text_is_said_or_faulty()
+    ensures either { (bytes : List ℕ) (known : List Name) → IsUtf8 bytes → ((is : List Written) × Says bytes known is) ⊎ ((f : Fault) × IsFirstFault bytes known f) }
+    ensures one { (bytes : List ℕ) (known : List Name) (f g : Fault) → IsFirstFault bytes known f → IsFirstFault bytes known g → f ≡ g }
+{}
+
 /// Bytes that say items have no first fault.
 pub fn said_is_faultless()
     ensures { (bytes : List ℕ) (known : List Name) (is : List Written) (f : Fault) → Says bytes known is → IsFirstFault bytes known f → ⊥ }
@@ -31,11 +38,21 @@ pub fn bad_text_is_first()
         → IsFirstFault bytes known (BadText at what) → IsFirstBadPlace (length bytes) known (tokens false 0 bytes) at what }
 {}
 
-/// What a text says behind items is a list of items, each closed and over the earlier ones, with each variable and name used in its class,
-/// and of the forms that the check knows.
+/// A parenthesis is too many where 1,024 are open behind a beginning of a text of the grammar.
+pub fn too_deep_is_past_the_limit()
+    ensures { (bytes : List ℕ) (known : List Name) (at : ℕ) → IsFirstFault bytes known (TooDeep at) → IsDeepPlace (tokens false 0 bytes) at }
+{}
+
+/// What a text says behind items is a list of items, each closed and over the earlier ones, with each variable and name used in its class.
 pub fn read_items_are_items()
-    ensures over { (bytes : List ℕ) (es ws : List Written) → Says bytes (with_items es []) ws → AreOver es ws }
-    ensures forms { (bytes : List ℕ) (es ws : List Written) → Says bytes (with_items es []) ws → AreFirstItems ws }
+    ensures { (bytes : List ℕ) (es ws : List Written) → Says bytes (with_items es []) ws → AreOver es ws }
+{}
+
+/// Files one after the other: what a text says behind a list of items makes one list with them, and the names behind both lists are those
+/// behind the second where those behind the first are known.
+pub fn files_make_one_list()
+    ensures items { (bytes : List ℕ) (es ws : List Written) → AreItems es → Says bytes (with_items es []) ws → AreItems (es ++ ws) }
+    ensures names { (es ws : List Written) (known : List Name) → with_items (es ++ ws) known ≡ with_items ws (with_items es known) }
 {}
 
 /// Where the check accepts a list of items of these forms, the list has a derivation.

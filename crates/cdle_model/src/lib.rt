@@ -24,8 +24,8 @@ pub use core_laws::{
 };
 pub use grammar::{Class, CoreWanted, Count, Form, Piece, Sort};
 pub use laws::{
-    accepted_is_derived, bad_text_is_first, one_text_one_tree, read_items_are_items,
-    said_is_faultless,
+    accepted_is_derived, bad_text_is_first, files_make_one_list, one_text_one_tree,
+    read_items_are_items, said_is_faultless, text_is_said_or_faulty, too_deep_is_past_the_limit,
 };
 use std::alloc::{AllocError, AllocFailed};
 pub use text::Text;

@@ -1,5 +1,5 @@
-//! Places that were counted by hand.
-use crate::{Place, place_of};
+//! Places and numbers that were counted by hand.
+use crate::{NameId, NameTable, Place, place_of};
 
 #[test]
 fn places(rt: HostRuntime) {
@@ -18,4 +18,20 @@ fn places(rt: HostRuntime) {
     for (text, at, line, column) in table {
         assert!(rt; place_of(text, at) == Place { line, column });
     }
+}
+
+#[test]
+fn numbers_of_names(rt: HostRuntime) {
+    let mut names = NameTable::new(rt.alloc());
+    assert_eq!(rt; names.len(), 0);
+    let table = [("x", 0), ("", 1), ("é★", 2), ("x", 0), ("X", 3), ("é★", 2)];
+    for (text, number) in table {
+        if names.len() == 4294967295 {
+            return;
+        }
+        let id = names.intern(rt.alloc(), text).expect(&rt, "memory");
+        assert_eq!(rt; id, NameId(number));
+    }
+    assert_eq!(rt; names.len(), 4);
+    assert_eq!(rt; names.text(NameId(2)), "é★");
 }

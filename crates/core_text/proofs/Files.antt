@@ -1,8 +1,8 @@
 -- The items so far.
-use Rattle.std.proofs.Common.{◌≡◌, ℕ, List, [], ◌∷◌, ◌++◌, length, Result, Ok, Err, refl, sym, ap, subst, ◌∙◌, Option, Some, None, true, false}
+use Rattle.std.proofs.Common.{◌≡◌, ℕ, List, [], ◌∷◌, ◌++◌, length, Ok, refl, sym, ap, subst, Option, Some, None, true, false}
 use Rattle.std.specs.Prelude.{MatchOption, is_some}
 use Rattle.std.specs.Str.{IsCharBoundary, IsUtf8}
-use Rattle.std.proofs.lemmas.List.{map_push, append_assoc}
+use Rattle.std.proofs.lemmas.List.{map_push}
 use Rattle.cdle_model.specs.Forms.{Written, name_of}
 use Rattle.cdle_model.specs.CoreTokens.{Token, Word}
 use Rattle.cdle_model.specs.CoreFaults.{BadText, Unbound, WrongClass, TooDeep}

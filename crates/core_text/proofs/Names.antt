@@ -1,17 +1,21 @@
 -- The items of a file and those of earlier files.
-use Rattle.std.proofs.Common.{◌≡◌, ℕ, suc, ◌<◌, ◌+◌, Bool, true, false, cond, List, [], ◌∷◌, ◌++◌, length, Option, Some, None, refl, sym, ap, subst, ◌∙◌, arith}
+use Rattle.std.proofs.Common.{◌≡◌, ℕ, suc, ◌<◌, ◌+◌, Bool, true, false, cond, List, [], ◌∷◌, ◌++◌, length, Option, Some, None, Result, Ok, Err, refl, sym, ap, subst, ◌∙◌, arith}
 use Rattle.std.specs.Str.{bytes_eq}
 use Rattle.std.proofs.lemmas.List.{length-append, length-map, length-reverse, map_push, reverse-append}
-use Rattle.std.specs.Prelude.{map, reverse, IfSome}
+use Rattle.std.specs.Prelude.{map, reverse, IfSome, IsOk, OnOk}
 use Rattle.std.specs.Global.{Vec}
 use Rattle.std.specs.HashMap.{HashMap, UpdatesBy, get_by}
 use Rattle.std.specs.Map.{lookup, IsKeyTest, AreApart, KeepsOthers}
 use Rattle.std.specs.Cmp.Lexicographic.{bytes_decides, nat_list_eq_equiv}
-use Rattle.core_text.specs.Names.{entry, entry_names, numbered, latest_of, latest_at}
-use Rattle.core_text.specs.declared.scope.Entry.{Entry}
+use Rattle.core_text.specs.Names.{entry, entry_names, item_name, new_name, numbered, latest_of, latest_at}
+use Rattle.core_text.specs.declared.entry.NewName.{NewName}
+use Rattle.core_tree.specs.Items.{all_written}
+use Rattle.core_tree.specs.declared.items.CoreItem.{CoreItem}
+use Rattle.core_text.specs.declared.entry.Entry.{Entry}
 use Rattle.cdle_model.specs.declared.grammar.Sort.{Sort}
 use Rattle.cdle_model.specs.Trees.{Tree, name}
-use Rattle.cdle_model.specs.CoreNames.{Name, item_of}
+use Rattle.cdle_model.specs.Forms.{Written}
+use Rattle.cdle_model.specs.CoreNames.{Name, item_of, with_item, with_items}
 
 abbrev numbered_from : ℕ → Tree → Tree
 numbered_from k (name n) = name (k + n)
@@ -100,3 +104,43 @@ module _ {S : Type 0} (m n : HashMap (Vec ℕ) (Sort × ℕ) S) where
   pub indexed_more : (xs ys : List Entry) (bs : List ℕ) (v : Sort × ℕ) (e : Entry) → UpdatesBy (λ x y. bytes_eq x.items y.items) (λ k. bytes_eq bs k.items) m n (Some v)
       → ((w : List ℕ) → latest_at m w ≡ latest_of w (entry_names xs)) → ys ≡ xs ++ e ∷ [] → e.name.items ≡ bs → v ≡ (e.sort, length xs) → (w : List ℕ) → latest_at n w ≡ latest_of w (entry_names ys)
   indexed_more xs ys bs v e h old p q r w = latest_updates bs v h w ∙ rw (p, entry_names-push xs e, q, old w, r, entry_names-length xs) refl
+
+-- ---- putting names one after the other
+
+pub is_on : {A B : Type 0} (r : Result A B) (P : Type 0) → OnOk r P → IsOk r → P
+is_on (Ok x) P h g = h
+is_on (Err e) P h g = absurd cc
+
+-- the names behind these, each put last in its turn
+abbrev pub put_names : List NewName → List Name → List Name
+put_names [] known = known
+put_names (n ∷ ns) known = put_names ns (new_name n ∷ known)
+
+same_head : (a b : Name) (xs ys : List Name) → a ∷ xs ≡ b ∷ ys → a ≡ b
+same_head a b xs ys e = cc
+
+same_tail : (a b : Name) (xs ys : List Name) → a ∷ xs ≡ b ∷ ys → xs ≡ ys
+same_tail a b xs ys e = cc
+
+-- those of items are the items' names
+pub put_items : (ns : List NewName) (is : List CoreItem) (known : List Name) → map new_name ns ≡ map item_name is → put_names ns known ≡ with_items (all_written is) known
+put_items [] [] known e = refl
+put_items [] (i ∷ is) known e = absurd cc
+put_items (n ∷ ns) [] known e = absurd cc
+put_items (n ∷ ns) (i ∷ is) known e =
+    put_items ns is (new_name n ∷ known) (same_tail _ _ _ _ e) ∙ ap (λ (x : Name). with_items (all_written is) (x ∷ known)) (same_head _ _ _ _ e)
+
+pub as_many : (ns : List NewName) (is : List CoreItem) → map new_name ns ≡ map item_name is → length ns ≡ length (all_written is)
+as_many [] [] e = refl
+as_many [] (i ∷ is) e = absurd cc
+as_many (n ∷ ns) [] e = absurd cc
+as_many (n ∷ ns) (i ∷ is) e = ap suc (as_many ns is (same_tail _ _ _ _ e))
+
+-- so many more
+pub length_with_items : (is : List Written) (known : List Name) → length (with_items is known) ≡ length known + length is
+length_with_items [] known = omega arith
+length_with_items (i ∷ is) known = let others = length_with_items is (with_item i known) in omega (arith, others)
+
+pub nothing_left : {X : Type 0} (l : List X) → length l ≡ 0 → l ≡ []
+nothing_left [] h = refl
+nothing_left (x ∷ xs) h = absurd (omega arith)

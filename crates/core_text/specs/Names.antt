@@ -6,7 +6,12 @@ use Rattle.std.specs.HashMap.{HashMap, get_by}
 use Rattle.cdle_model.specs.declared.grammar.Sort.{Sort}
 use Rattle.cdle_model.specs.Trees.{Tree, name}
 use Rattle.cdle_model.specs.CoreNames.{Name}
-use Rattle.core_text.specs.declared.scope.Entry.{Entry}
+use Rattle.cdle_model.specs.Forms.{name_of}
+use Rattle.cdle_model.specs.Classes.{item_sort}
+use Rattle.core_tree.specs.Items.{written}
+use Rattle.core_tree.specs.declared.items.CoreItem.{CoreItem}
+use Rattle.core_text.specs.declared.entry.Entry.{Entry}
+use Rattle.core_text.specs.declared.entry.NewName.{NewName}
 
 abbrev pub entry : Entry → Name
 entry e = record { text = e.name.items; sort = e.sort }
@@ -27,3 +32,10 @@ latest_of w (x ∷ xs) = if bytes_eq w x.text then Some (x.sort, length xs) else
 -- what a map of names has at a spelling
 abbrev pub latest_at : {S : Type 0} → HashMap (Vec ℕ) (Sort × ℕ) S → List ℕ → Option (Sort × ℕ)
 latest_at m w = get_by (λ k. bytes_eq w k.items) m
+
+abbrev pub new_name : NewName → Name
+new_name n = entry n.entry
+
+-- the name that an item gives
+abbrev pub item_name : CoreItem → Name
+item_name i = record { text = name_of (written i); sort = item_sort (written i) }

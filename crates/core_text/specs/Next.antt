@@ -1,5 +1,5 @@
 -- What one call takes from the text.
-use Rattle.std.specs.Prelude.{◌≡◌, ℕ, ◌+◌, ◌<◌, ◌≤◌, Bool, true, false, ◌==◌, List, [], ◌∷◌, length, drop, slice_index}
+use Rattle.std.specs.Prelude.{◌≡◌, ℕ, ◌<◌, ◌≤◌, false, ◌==◌, List, ◌∷◌, length, slice_index}
 use Rattle.std.specs.Str.{IsCharBoundary, IsUtf8}
 use Rattle.cdle_model.specs.CoreTokens.{Token, Opens, Closes, Word, tokens, is_white, ends_word}
 use Rattle.cdle_model.specs.CoreTokens as model

@@ -1,6 +1,8 @@
 -- The scope that the reader's values stand for.
-use Rattle.std.specs.Prelude.{ℕ, List, [], ◌∷◌, ◌++◌, Option, Some, None}
+use Rattle.std.specs.Prelude.{ℕ, ◌+◌, ◌≤◌, List, [], ◌∷◌, ◌++◌, Option, Some, None}
 use Rattle.std.specs.Borrow.{Bor}
+use Rattle.std.specs.Vec.{vec_len, vec_capacity}
+use Rattle.std.specs.HashMap.{spare}
 use Rattle.cdle_model.specs.declared.grammar.Sort.{Sort}
 use Rattle.cdle_model.specs.Trees.{Tree, var, name}
 use Rattle.cdle_model.specs.CoreNames.{Name, Names}
@@ -17,6 +19,10 @@ names (Inside' text sort p outer) = record { text = text.now; sort = sort } ∷ 
 -- the names of the items, the latest first
 abbrev pub known_names : CoreScope → List Name
 known_names s = entry_names s.entries.items
+
+-- so many names can be put without more memory
+abbrev pub HasRoom : ℕ → CoreScope → Type 0
+HasRoom n s = (vec_len s.entries + n ≤ vec_capacity s.entries) × (n ≤ spare s.latest)
 
 -- behind the binders the file's items, and behind these the earlier files'
 abbrev pub scope_of : Binders → CoreScope → CoreScope → Names

@@ -1,30 +1,17 @@
 //! Reading whole files.
 ghost use Rattle.std.specs.Prelude.{◌≡◌, ◌+◌, ◌<◌, ◌≤◌, ◌^◌, length, IfOk, IfErr};
-ghost use Rattle.cdle_model.specs.Classes.{item_sort};
 ghost use Rattle.cdle_model.specs.CoreText.{Says};
-ghost use Rattle.core_tree.specs.Items.{written};
 ghost use Rattle.core_text.specs.File.{IsFaultOf};
 ghost use Rattle.core_text.specs.View.{IsPlaced};
 ghost use Rattle.core_text.specs.Scope.{known_names};
 
 use crate::error::CoreTextFault;
 use crate::reader::Reader;
-use crate::scope::CoreScope;
+use crate::scope::{CoreScope, sort_of};
 use crate::token::next;
 use crate::words::head_of;
-use cdle_model::Sort;
-use core_tree::{CoreFile, CoreItem, CoreItems};
+use core_tree::{CoreFile, CoreItems};
 use std::alloc::Global;
-
-/// What an item's name stands for.
-fn sort_of(item: &CoreItem) -> Sort
-    ensures { result ≡ item_sort (written item.now) }
-{
-    match item {
-        CoreItem::Def { .. } => Sort::OfTerm,
-        CoreItem::TypeDef { .. } => Sort::OfType,
-    }
-}
 
 /// The items of a file behind those of earlier files, or its first fault. A file says at most one list of items, and none where it has a
 /// fault.

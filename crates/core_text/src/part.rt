@@ -1,11 +1,15 @@
-//! Parts of any class, and the tree of a form with its parts.
-ghost use Rattle.std.specs.Prelude.{◌≡◌, ◌∷◌, [], length, IfOk};
-ghost use Rattle.cdle_model.specs.CoreGrammar.{pieces, class_of_form, part_classes, made};
+//! Parts of any class.
+ghost use Rattle.std.specs.Prelude.{◌≡◌, None, IfOk, IsTrue, is_some};
+ghost use Rattle.cdle_model.specs.CoreGrammar.{names_of};
+ghost use Rattle.cdle_model.specs.Forms.{star};
+ghost use Rattle.cdle_model.specs.Trees.{var, name};
 ghost use Rattle.cdle_model.specs.declared.grammar.Class.TheVariants as class;
-ghost use Rattle.core_text.specs.Parts.{AreShallow, part_tree, class_of, classes, trees};
+ghost use Rattle.core_text.specs.Parts.{part_tree, class_of};
+ghost use Rattle.core_text.specs.Scope.{meant};
 
-use cdle_model::{Form, NoMemory};
-use core_tree::{Kind, Term, Ty};
+use crate::binders::Meaning;
+use cdle_model::{Class, NoMemory};
+use core_tree::{Guide, GuideKind, Kind, Pure, Term, Ty};
 use std::alloc::Global;
 
 /// A part, with its class.
@@ -14,9 +18,65 @@ pub(crate) enum Part {
     Kind(Kind),
     Ty(Ty),
     Term(Term),
+    Pure(Pure),
+    Guide(Guide),
+    GuideKind(GuideKind),
 }
 
 impl Part {
+    /// `*`, where a class has it in the names' place.
+    pub(crate) fn star(alloc: Global, class: Class) -> Result<Part, NoMemory>
+        requires { names_of class ≡ None }
+        ensures tree { IfOk result (λ p. part_tree p ≡ star) }
+        ensures class { IfOk result (λ p. class_of p ≡ class) }
+    {
+        match class {
+            Class::Kind => Ok(Part::Kind(Kind::star(alloc)?)),
+            Class::GuideKind => Ok(Part::GuideKind(GuideKind::star(alloc)?)),
+            _ => unreachable!(),
+        }
+    }
+
+    /// What a name stands for.
+    pub(crate) fn named(alloc: Global, class: Class, meaning: Meaning) -> Result<Part, NoMemory>
+        requires { IsTrue (is_some (names_of class)) }
+        ensures tree { IfOk result (λ p. part_tree p ≡ meant meaning) }
+        ensures class { IfOk result (λ p. class_of p ≡ class) }
+    {
+        match meaning {
+            Meaning::Var(index) => Part::var(alloc, class, index),
+            Meaning::Name(number) => Part::name(alloc, class, number),
+        }
+    }
+
+    fn var(alloc: Global, class: Class, index: u32) -> Result<Part, NoMemory>
+        requires { IsTrue (is_some (names_of class)) }
+        ensures tree { IfOk result (λ p. part_tree p ≡ var index) }
+        ensures class { IfOk result (λ p. class_of p ≡ class) }
+    {
+        match class {
+            Class::Ty => Ok(Part::Ty(Ty::var(alloc, index)?)),
+            Class::Term => Ok(Part::Term(Term::var(alloc, index)?)),
+            Class::Pure => Ok(Part::Pure(Pure::var(alloc, index)?)),
+            Class::Guide => Ok(Part::Guide(Guide::var(alloc, index)?)),
+            _ => unreachable!(),
+        }
+    }
+
+    fn name(alloc: Global, class: Class, number: u32) -> Result<Part, NoMemory>
+        requires { IsTrue (is_some (names_of class)) }
+        ensures tree { IfOk result (λ p. part_tree p ≡ name number) }
+        ensures class { IfOk result (λ p. class_of p ≡ class) }
+    {
+        match class {
+            Class::Ty => Ok(Part::Ty(Ty::name(alloc, number)?)),
+            Class::Term => Ok(Part::Term(Term::name(alloc, number)?)),
+            Class::Pure => Ok(Part::Pure(Pure::name(alloc, number)?)),
+            Class::Guide => Ok(Part::Guide(Guide::name(alloc, number)?)),
+            _ => unreachable!(),
+        }
+    }
+
     pub(crate) fn as_kind(&self) -> &Kind
         requires { class_of self.now ≡ class.Kind }
         ensures { part_tree self.now ≡ result.now }
@@ -46,46 +106,34 @@ impl Part {
             _ => unreachable!(),
         }
     }
-}
 
-#[tactic(auto, using(crate::proofs::Pieces::length_classes))]
-fn two(parts: &[Part]) -> (&Part, &Part)
-    requires { length (classes parts.now) ≡ 2 }
-    ensures { parts.now ≡ result.0.now ∷ result.1.now ∷ [] }
-{
-    match parts {
-        [first, second] => (first, second),
-        _ => unreachable!(),
+    pub(crate) fn as_pure(&self) -> &Pure
+        requires { class_of self.now ≡ class.Pure }
+        ensures { part_tree self.now ≡ result.now }
+    {
+        match self {
+            Part::Pure(pure) => pure,
+            _ => unreachable!(),
+        }
     }
-}
 
-/// The tree of a form with its parts.
-pub(crate) fn build(alloc: Global, form: Form, parts: &[Part]) -> Result<Part, NoMemory>
-    requires parts { classes parts.now ≡ part_classes (pieces form) }
-    requires shallow { AreShallow 4095 parts.now }
-    ensures tree { IfOk result (λ p. part_tree p ≡ made form (trees parts.now)) }
-    ensures class { IfOk result (λ p. class_of p ≡ class_of_form form) }
-{
-    match form {
-        Form::Pi => {
-            let (domain, part) = two(parts);
-            let ty = Ty::pi(alloc, domain.as_ty(), part.as_ty())?;
-            Ok(Part::Ty(ty))
+    pub(crate) fn as_guide(&self) -> &Guide
+        requires { class_of self.now ≡ class.Guide }
+        ensures { part_tree self.now ≡ result.now }
+    {
+        match self {
+            Part::Guide(guide) => guide,
+            _ => unreachable!(),
         }
-        Form::Allt => {
-            let (domain, part) = two(parts);
-            let ty = Ty::allt(alloc, domain.as_kind(), part.as_ty())?;
-            Ok(Part::Ty(ty))
-        }
-        Form::Lam => {
-            let (domain, part) = two(parts);
-            let term = Term::lam(alloc, domain.as_ty(), part.as_term())?;
-            Ok(Part::Term(term))
-        }
-        Form::Xlam => {
-            let (domain, part) = two(parts);
-            let term = Term::xlam(alloc, domain.as_kind(), part.as_term())?;
-            Ok(Part::Term(term))
+    }
+
+    pub(crate) fn as_guide_kind(&self) -> &GuideKind
+        requires { class_of self.now ≡ class.GuideKind }
+        ensures { part_tree self.now ≡ result.now }
+    {
+        match self {
+            Part::GuideKind(kind) => kind,
+            _ => unreachable!(),
         }
     }
 }

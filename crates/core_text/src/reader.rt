@@ -1,22 +1,25 @@
 //! Reading parts and items from the left.
 ghost use Rattle.std.specs.Prelude.{◌≡◌, ◌+◌, ◌<◌, ◌≤◌, ◌^◌, ◌++◌, length, IfErr, IfOk};
 ghost use Rattle.std.specs.Str.{IsCharBoundary, IsUtf8};
-ghost use Rattle.cdle_model.specs.CoreReading.{leaf, part_at, form_with, item_at};
+ghost use Rattle.cdle_model.specs.CoreReading.{leaf, part_at, form_with, item_at, item_behind};
+ghost use Rattle.cdle_model.specs.declared.grammar.Sort.TheVariants.{OfTerm, OfType};
+ghost use Rattle.cdle_model.specs.CoreNames.{under};
 ghost use Rattle.cdle_model.specs.Depth.{depth};
 ghost use Rattle.core_tree.specs.Items.{written};
 ghost use Rattle.core_text.specs.View.{rest, Advances, Gives, IsAt, IsPlaced};
 ghost use Rattle.core_text.specs.Parts.{part_tree, class_of};
-ghost use Rattle.core_text.specs.Scope.{names, known_names, scope_of};
+ghost use Rattle.core_text.specs.Scope.{binder_name, names, known_names, scope_of};
 
-use crate::binders::{Binders, Meaning, find};
+use crate::binders::{Binders, find};
+use crate::build::build;
 use crate::error::CoreTextFault;
-use crate::forms::{opens, pieces_of, wanted_of};
-use crate::part::{Part, build};
+use crate::forms::{is_same, pieces_of, sort_of_names, wanted_of};
+use crate::part::Part;
 use crate::scope::CoreScope;
 use crate::token::{Lexeme, next};
 use crate::words::{bad, close_of, form_word, name_of, open_of, sort_of, too_deep};
-use cdle_model::{Class, CoreWanted, Piece, Sort, Text};
-use core_tree::{CoreItem, Kind, Term, Ty};
+use cdle_model::{Class, Piece, Sort, Text};
+use core_tree::CoreItem;
 use std::alloc::Global;
 
 /// How many parentheses may open inside an item's own.
@@ -50,40 +53,24 @@ impl<'a> Reader<'a> {
         ensures placed { IfErr result (IsAt at) }
     {
         let star = word == b"*".as_slice();
-        match class {
-            Class::Kind => {
+        match sort_of_names(class) {
+            None => {
                 if !star {
-                    return Err(bad(at, CoreWanted::Kind));
+                    return Err(bad(at, wanted_of(class)));
                 }
-                Ok(Part::Kind(Kind::star(self.alloc)?))
+                Ok(Part::star(self.alloc, class)?)
             }
-            Class::Ty => {
+            Some(sort) => {
                 if star {
-                    return Err(bad(at, CoreWanted::Ty));
+                    return Err(bad(at, wanted_of(class)));
                 }
                 match find(binders, self.own, self.known, word) {
                     None => Err(CoreTextFault::Unbound { at: at as u32 }),
-                    Some((Sort::OfTerm, _)) => Err(CoreTextFault::WrongClass { at: at as u32 }),
-                    Some((Sort::OfType, Meaning::Var(index))) => {
-                        Ok(Part::Ty(Ty::var(self.alloc, index)?))
-                    }
-                    Some((Sort::OfType, Meaning::Name(number))) => {
-                        Ok(Part::Ty(Ty::name(self.alloc, number)?))
-                    }
-                }
-            }
-            Class::Term => {
-                if star {
-                    return Err(bad(at, CoreWanted::Term));
-                }
-                match find(binders, self.own, self.known, word) {
-                    None => Err(CoreTextFault::Unbound { at: at as u32 }),
-                    Some((Sort::OfType, _)) => Err(CoreTextFault::WrongClass { at: at as u32 }),
-                    Some((Sort::OfTerm, Meaning::Var(index))) => {
-                        Ok(Part::Term(Term::var(self.alloc, index)?))
-                    }
-                    Some((Sort::OfTerm, Meaning::Name(number))) => {
-                        Ok(Part::Term(Term::name(self.alloc, number)?))
+                    Some((found, meaning)) => {
+                        if !is_same(sort, found) {
+                            return Err(CoreTextFault::WrongClass { at: at as u32 });
+                        }
+                        Ok(Part::named(self.alloc, class, meaning)?)
                     }
                 }
             }
@@ -126,10 +113,38 @@ impl<'a> Reader<'a> {
                 if left == 0 {
                     return Err(too_deep(token.at));
                 }
-                if !opens(class) {
-                    return Err(bad(token.at, wanted_of(class)));
-                }
                 self.form(left - 1, binders, class, token.end)
+            }
+        }
+    }
+
+    /// A part of a class under the binder that came before it, if one did.
+    #[cycle(part)]
+    fn under(
+        &self,
+        left: usize,
+        binders: &Binders<'_>,
+        binder: Option<(&[u8], Sort)>,
+        class: Class,
+        from: usize,
+    ) -> Result<(Part, usize), CoreTextFault>
+        requires utf8 { IsUtf8 self.now.bytes.now }
+        requires start { IsCharBoundary self.now.bytes.now from }
+        requires short { length self.now.bytes.now < 2 ^ 32 }
+        requires counted { length (known_names self.now.own.now) + length (known_names self.now.known.now) < 2 ^ 32 }
+        requires nested { length (names binders.now) + left < 1024 }
+        ensures gives { Gives (λ x. (part_tree x.0, rest self.now.bytes.now x.1)) result
+            (part_at (length self.now.bytes.now) left (under (binder_name binder.entry) (scope_of binders.now self.now.own.now self.now.known.now)) class (rest self.now.bytes.now from)) }
+        ensures advances { IfOk result (λ x. Advances self.now.bytes.now from x.1) }
+        ensures placed { IfErr result (IsPlaced self.now.bytes.now) }
+        ensures class { IfOk result (λ x. class_of x.0 ≡ class) }
+        ensures shallow { IfOk result (λ x. depth (part_tree x.0) ≤ left) }
+    {
+        match binder {
+            None => self.part(left, binders, class, from),
+            Some((name, sort)) => {
+                let inner = Binders::Inside(name, sort, &*binders);
+                self.part(left, &inner, class, from)
             }
         }
     }
@@ -174,13 +189,7 @@ impl<'a> Reader<'a> {
                     at = after;
                 }
                 Piece::Under(class) => {
-                    let (part, after) = match binder {
-                        None => self.part(left, binders, class, at)?,
-                        Some((name, sort)) => {
-                            let inner = Binders::Inside(name, sort, &*binders);
-                            self.part(left, &inner, class, at)?
-                        }
-                    };
+                    let (part, after) = self.under(left, binders, binder, class, at)?;
                     parts.push(part)?;
                     at = after;
                 }
@@ -202,6 +211,48 @@ impl<'a> Reader<'a> {
         }
     }
 
+    /// The definition of a term, behind its name.
+    fn def(&self, name: &[u8], from: usize) -> Result<(CoreItem, usize), CoreTextFault>
+        requires utf8 { IsUtf8 self.now.bytes.now }
+        requires start { IsCharBoundary self.now.bytes.now from }
+        requires short { length self.now.bytes.now < 2 ^ 32 }
+        requires counted { length (known_names self.now.own.now) + length (known_names self.now.known.now) < 2 ^ 32 }
+        requires text { IsUtf8 name.now }
+        ensures gives { Gives (λ x. (written x.0, rest self.now.bytes.now x.1)) result
+            (item_behind (length self.now.bytes.now) (known_names self.now.own.now ++ known_names self.now.known.now) OfTerm name.now (rest self.now.bytes.now from)) }
+        ensures advances { IfOk result (λ x. Advances self.now.bytes.now from x.1) }
+        ensures placed { IfErr result (IsPlaced self.now.bytes.now) }
+    {
+        let (ty, at) = self.part(INSIDE_ITEM, &Binders::Outermost, Class::Ty, from)?;
+        let (body, at) = self.part(INSIDE_ITEM, &Binders::Outermost, Class::Term, at)?;
+        let at = close_of(self.bytes, INSIDE_ITEM, at)?;
+        let name = self.text_of(name)?;
+        let ty = ty.as_ty().clone()?;
+        let body = body.as_term().clone()?;
+        Ok((CoreItem::Def { name, ty, body }, at))
+    }
+
+    /// The definition of a type, behind its name.
+    fn type_def(&self, name: &[u8], from: usize) -> Result<(CoreItem, usize), CoreTextFault>
+        requires utf8 { IsUtf8 self.now.bytes.now }
+        requires start { IsCharBoundary self.now.bytes.now from }
+        requires short { length self.now.bytes.now < 2 ^ 32 }
+        requires counted { length (known_names self.now.own.now) + length (known_names self.now.known.now) < 2 ^ 32 }
+        requires text { IsUtf8 name.now }
+        ensures gives { Gives (λ x. (written x.0, rest self.now.bytes.now x.1)) result
+            (item_behind (length self.now.bytes.now) (known_names self.now.own.now ++ known_names self.now.known.now) OfType name.now (rest self.now.bytes.now from)) }
+        ensures advances { IfOk result (λ x. Advances self.now.bytes.now from x.1) }
+        ensures placed { IfErr result (IsPlaced self.now.bytes.now) }
+    {
+        let (kind, at) = self.part(INSIDE_ITEM, &Binders::Outermost, Class::Kind, from)?;
+        let (body, at) = self.part(INSIDE_ITEM, &Binders::Outermost, Class::Ty, at)?;
+        let at = close_of(self.bytes, INSIDE_ITEM, at)?;
+        let name = self.text_of(name)?;
+        let kind = kind.as_kind().clone()?;
+        let body = body.as_ty().clone()?;
+        Ok((CoreItem::TypeDef { name, kind, body }, at))
+    }
+
     /// An item.
     #[tactic(auto, unfolding(cdle_model::specs::CoreReading::item_at))]
     pub(crate) fn item(&self, from: usize) -> Result<(CoreItem, usize), CoreTextFault>
@@ -218,24 +269,8 @@ impl<'a> Reader<'a> {
         let (sort, at) = sort_of(self.bytes, at)?;
         let (name, at) = name_of(self.bytes, INSIDE_ITEM, at)?;
         match sort {
-            Sort::OfTerm => {
-                let (ty, at) = self.part(INSIDE_ITEM, &Binders::Outermost, Class::Ty, at)?;
-                let (body, at) = self.part(INSIDE_ITEM, &Binders::Outermost, Class::Term, at)?;
-                let at = close_of(self.bytes, INSIDE_ITEM, at)?;
-                let name = self.text_of(name)?;
-                let ty = ty.as_ty().clone()?;
-                let body = body.as_term().clone()?;
-                Ok((CoreItem::Def { name, ty, body }, at))
-            }
-            Sort::OfType => {
-                let (kind, at) = self.part(INSIDE_ITEM, &Binders::Outermost, Class::Kind, at)?;
-                let (body, at) = self.part(INSIDE_ITEM, &Binders::Outermost, Class::Ty, at)?;
-                let at = close_of(self.bytes, INSIDE_ITEM, at)?;
-                let name = self.text_of(name)?;
-                let kind = kind.as_kind().clone()?;
-                let body = body.as_ty().clone()?;
-                Ok((CoreItem::TypeDef { name, kind, body }, at))
-            }
+            Sort::OfTerm => self.def(name, at),
+            Sort::OfType => self.type_def(name, at),
         }
     }
 }

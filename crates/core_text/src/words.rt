@@ -158,6 +158,8 @@ pub(crate) fn sort_of(bytes: &[u8], from: usize) -> Result<(Sort, usize), CoreTe
             Lexeme::Word(word) => {
                 if word == b"def".as_slice() {
                     Ok((Sort::OfTerm, token.end))
+                } else if word == b"type".as_slice() {
+                    Ok((Sort::OfType, token.end))
                 } else {
                     Err(bad(token.at, CoreWanted::Item))
                 }

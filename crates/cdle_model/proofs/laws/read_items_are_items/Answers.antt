@@ -3,8 +3,5 @@ use Rattle.cdle_model.specs.CoreTokens.{tokens}
 use Rattle.cdle_model.proofs.CoreItems.{file_read}
 use Rattle.cdle_model.proofs.laws.read_items_are_items.Goals as goal
 
-pub returns-clause-over : goal.returns-clause-over
-returns-clause-over c = λ bytes es ws says. (file_read 1023 (tokens false 0 bytes) es ws says.file).0
-
-pub returns-clause-forms : goal.returns-clause-forms
-returns-clause-forms c = λ bytes es ws says. (file_read 1023 (tokens false 0 bytes) es ws says.file).1
+pub returns : goal.returns
+returns c = λ bytes es ws says. file_read 1023 (tokens false 0 bytes) es ws says.file

@@ -8,10 +8,13 @@ use Rattle.core_text.specs.Scope.{scope_of, binder_name}
 use Rattle.core_text.proofs.reader.Reader.+part.Given as goal
 
 abbrev pub decreases-part : goal.decreases-part
-decreases-part l = 2 * l.left
+decreases-part l = 3 * l.left
+
+abbrev pub decreases-under : goal.decreases-under
+decreases-under l = 3 * l.left + 1
 
 abbrev pub decreases-form : goal.decreases-form
-decreases-form l = 2 * l.left + 1
+decreases-form l = 3 * l.left + 2
 
 abbrev pub invariant-form-pieces : goal.invariant-form-pieces
 invariant-form-pieces l = record {
