@@ -1,5 +1,11 @@
-pub mod Forms
-pub mod Contexts
-pub mod Items
+pub mod Passing
+pub mod Results
+pub mod Splits
+pub mod Asked
+pub mod Found
+pub mod Looked
+pub mod Known
+pub mod Placed
 pub mod Lists
 pub mod Standing
+pub mod Verdicts

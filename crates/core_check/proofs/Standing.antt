@@ -1,60 +1,22 @@
 -- How the check stands after some of the items.
-use Rattle.std.proofs.Common.{◌≡◌, ℕ, zero, suc, ◌≤◌, Bool, true, false, cond, Decides, List, [], ◌∷◌, ◌++◌, length, Option, Some, None, option_map, refl, sym, ap, subst, ◌∙◌}
+use Rattle.std.proofs.Common.{◌≡◌, inl, inr, ℕ, suc, ◌+◌, Bool, true, false, cond, Decides, List, [], ◌∷◌, ◌++◌, length, Option, Some, None, Ok, Err, option_map, refl, sym, ap, subst, ◌∙◌, arith}
 use Rattle.std.specs.Str.{bytes_eq}
 use Rattle.std.proofs.lemmas.Slice.Eq.{bytes_eq-Decides}
-use Rattle.std.proofs.lemmas.List.Elements.{All-push}
-use Rattle.cdle_model.specs.declared.grammar.Sort.{Sort}
-use Rattle.cdle_model.specs.declared.grammar.Sort.TheVariants.{OfTerm}
-use Rattle.cdle_model.specs.Trees.{Tree, name}
-use Rattle.cdle_model.specs.Forms.{pi, allt, lam, xlam, Written, def_item, type_item, name_of}
-use Rattle.cdle_model.specs.Classes.{types, terms, within, Fits, item_sorts, IsOver, AreOver}
-use Rattle.cdle_model.specs.Depth.{depth}
-use Rattle.cdle_model.specs.Erasure.{erased}
-use Rattle.cdle_model.specs.Derivation.{Entry, term_of, type_of, item, signature}
-use Rattle.cdle_model.specs.FirstCheck.{IsFirstType, IsFirstItem, AreFirstItems, type_in, first_type, first_of, FirstVerdict, accepts, duplicate, by_types, by_item, by_name, first_check, first_check_after}
-use Rattle.core_check.specs.Context.{AreTypes, term_sorts, typed}
-use Rattle.core_check.specs.Items.{type_of_item, types_of, item_verdict, IsItemOver}
+use Rattle.cdle_model.specs.Trees.{Tree}
+use Rattle.cdle_model.specs.Forms.{Written, name_of}
+use Rattle.cdle_model.specs.Classes.{AreOver, IsOver}
+use Rattle.cdle_model.specs.HeadForms.{deep}
+use Rattle.cdle_model.specs.Derivation.{bodies, signature}
+use Rattle.cdle_model.specs.Check.{first_of, Finding, gives, refused, halts, infer_item, by_name, by_finding, check_item, check_after, check_items, SpentAfter, UndecidedAfter, IsUndecided}
+use Rattle.core_tree.specs.declared.faults.CoreFault.{CoreFault}
+use Rattle.core_tree.specs.declared.faults.CoreFault.TheVariants as c
+use Rattle.core_check.specs.declared.fault.Fault.{Fault}
+use Rattle.core_check.specs.declared.fault.Fault.TheVariants as f
+use Rattle.core_check.specs.Answer.{IsAnswer, IsOfItem}
+use Rattle.core_check.specs.Questions.{Meets}
+use Rattle.core_check.proofs.Passing.{IsFirm, firm_more, spent_more}
 
--- ---- the types alone say of an item what the items say
-
-sorts_same : (es : List Written) → AreFirstItems es → item_sorts es ≡ term_sorts (types_of es)
-sorts_same [] h = refl
-sorts_same (def_item x a t ∷ es) h = ap (λ (l : List Sort). OfTerm ∷ l) (sorts_same es h.1)
-sorts_same (type_item x k a ∷ es) h = absurd h.0
-
-item_same : (es : List Written) (n : ℕ) → AreFirstItems es → item (signature es) n ≡ item (typed (types_of es)) n
-item_same [] n h = refl
-item_same (def_item x a t ∷ es) zero h = refl
-item_same (def_item x a t ∷ es) (suc n) h = item_same es n h.1
-item_same (type_item x k a ∷ es) n h = absurd h.0
-
-type_same : (es : List Written) (c : List Entry) (t : Tree) → AreFirstItems es → first_type (signature es) c t ≡ first_type (typed (types_of es)) c t
-type_same es c (name n) h = ap type_in (item_same es n h)
-type_same es c (lam a t) h = ap (option_map (λ b. pi (erased a) b)) (type_same es (term_of (erased a) ∷ c) t h)
-type_same es c (xlam k t) h = ap (option_map (λ b. allt (erased k) b)) (type_same es (type_of (erased k) ∷ c) t h)
-type_same es c t h = refl
-
-verdict_same : (es : List Written) (w : Written) (r : FirstVerdict) → AreFirstItems es → by_item es w r ≡ item_verdict (types_of es) (length es) w r
-verdict_same es (def_item x a t) r h = ap (λ (o : Option Tree). by_types (length es) o (erased a) r) (type_same es [] t h)
-verdict_same es (type_item x k a) r h = refl
-
-over_same : (es : List Written) (w : Written) → AreFirstItems es → IsFirstItem w → IsOver es w → IsItemOver (types_of es) w
-over_same es (def_item x a t) h f over = subst (λ (ss : List Sort). Fits (within [] ss) types a × Fits (within [] ss) terms t) (sorts_same es h) over
-over_same es (type_item x k a) h f over = absurd f
-
--- ---- one more item
-
-more_items : (es : List Written) (w : Written) → AreFirstItems es → IsFirstItem w → AreFirstItems (es ++ (w ∷ []))
-more_items [] w h g = (g, tt)
-more_items (e ∷ es) w h g = (h.0, more_items es w h.1 g)
-
-more_types : (es : List Written) (w : Written) → types_of (es ++ (w ∷ [])) ≡ types_of es ++ (type_of_item w ∷ [])
-more_types [] w = refl
-more_types (e ∷ es) w = ap (λ (l : List Tree). type_of_item e ∷ l) (more_types es w)
-
-pub length_types : (es : List Written) → length (types_of es) ≡ length es
-length_types [] = refl
-length_types (e ∷ es) = ap suc (length_types es)
+-- ---- names
 
 -- the last item's number, where it alone has the name
 abbrev or_last : Option ℕ → Bool → ℕ → Option ℕ
@@ -86,71 +48,116 @@ named_more q es w old new fresh before step = step ∙ decided (bytes_eq (name_o
 
 -- ---- the check so far
 
--- after the items `es`, before the items `rest`: their types, the numbers of their names, and what is left of the check
-pub record Standing (ws es rest : List Written) (tys : List Tree) (names : List ℕ → Option ℕ) : Type 0 where
-  pub types : tys ≡ types_of es
+-- from m units on, the items before the rest pass
+pub record ItemsPass (m : ℕ) (es rest all : List Written) : Type 0 where
+  pub answers : (j : ℕ) → check_items (m + j) all ≡ check_after (m + j) es rest
+  pub undecided : (n j i : ℕ) (p : List ℕ) → UndecidedAfter n (m + j) es rest i p → IsUndecided n (m + j) all i p
+
+-- after the items `es`, which were checked, before the items `rest`, with the numbers of their names
+pub record Standing (all es rest checked : List Written) (names : List ℕ → Option ℕ) : Type 0 where
+  pub units : ℕ
+  pub pass : ItemsPass units es rest all
+  pub done : checked ≡ es
   pub named : (q : List ℕ) → names q ≡ first_of q es
-  pub same : first_check ws ≡ first_check_after es rest
-  pub done : AreFirstItems es
-  pub forms : AreFirstItems rest
   pub over : AreOver es rest
-  pub known : AreTypes tys
 
-pub counted : (ws es rest : List Written) (tys : List Tree) (names : List ℕ → Option ℕ) → Standing ws es rest tys names → length tys ≡ length es
-counted ws es rest tys names s = ap length s.types ∙ length_types es
+pub starts : (all es rest checked : List Written) (names : List ℕ → Option ℕ) → es ≡ [] → rest ≡ all → checked ≡ [] → ((q : List ℕ) → names q ≡ None) → AreOver [] all → Standing all es rest checked names
+starts all es rest checked names e f g h o = record {
+  units = 0;
+  pass = record { answers = λ j. rw (e, f) refl; undecided = λ n j i p u. rw (e, f) at u };
+  done = g ∙ sym e;
+  named = λ q. h q ∙ sym (ap (first_of q) e);
+  over = rw (e, f) o;
+}
 
--- what the check says of the next item
-pub next : (ws es rest : List Written) (tys : List Tree) (names : List ℕ → Option ℕ) (w : Written) (more : List Written) → Standing ws es rest tys names → rest ≡ w ∷ more
-    → IsFirstItem w × IsItemOver tys w
-    × (first_check ws ≡ by_name (length tys) (names (name_of w)) (item_verdict tys (length tys) w (first_check_after (es ++ (w ∷ [])) more)))
-next ws es rest tys names w more s e =
-    let forms = subst AreFirstItems e s.forms in
-    let over = subst (AreOver es) e s.over in
-    let verdict : first_check ws ≡ by_name (length es) (first_of (name_of w) es) (by_item es w (first_check_after (es ++ (w ∷ [])) more)) = s.same ∙ ap (first_check_after es) e in
-    let item = verdict_same es w (first_check_after (es ++ (w ∷ [])) more) s.done in
-    let count = length_types es in (
-      forms.0,
-      subst (λ (l : List Tree). IsItemOver l w) (sym s.types) (over_same es w s.done forms.0 over.0),
-      rw (s.types, count, s.named (name_of w), ← item) verdict,
-    )
+module _ (n : ℕ) (all es rest checked : List Written) (names : List ℕ → Option ℕ) (s : Standing all es rest checked names) where
+  pub counted : length checked ≡ length es
+  counted = ap length s.done
 
--- an earlier item has the name of the next one
-pub taken : (ws es rest : List Written) (tys : List Tree) (names : List ℕ → Option ℕ) (w : Written) (more : List Written) (n k : ℕ) (q : List ℕ) → Standing ws es rest tys names → rest ≡ w ∷ more
-    → n ≡ length tys → q ≡ name_of w → names q ≡ Some k → first_check ws ≡ duplicate n k
-taken ws es rest tys names w more n k q s e count named found =
-    let r = item_verdict tys (length tys) w (first_check_after (es ++ (w ∷ [])) more) in
-    (next ws es rest tys names w more s e).2 ∙ ap (λ (o : Option ℕ). by_name (length tys) o r) (ap names (sym named) ∙ found) ∙ ap (λ (m : ℕ). duplicate m k) (sym count)
+  module _ (w : Written) (more : List Written) (e : rest ≡ w ∷ more) where
+    pub next_over : IsOver checked w
+    next_over = rw s.done ((subst (AreOver es) e s.over).0)
 
--- no earlier item has it
-pub judged : (ws es rest : List Written) (tys : List Tree) (names : List ℕ → Option ℕ) (w : Written) (more : List Written) (n : ℕ) (q : List ℕ) → Standing ws es rest tys names → rest ≡ w ∷ more
-    → n ≡ length tys → q ≡ name_of w → names q ≡ None → first_check ws ≡ item_verdict tys n w (first_check_after (es ++ (w ∷ [])) more)
-judged ws es rest tys names w more n q s e count named fresh =
-    let r = first_check_after (es ++ (w ∷ [])) more in
-    (next ws es rest tys names w more s e).2 ∙ ap (λ (o : Option ℕ). by_name (length tys) o (item_verdict tys (length tys) w r)) (ap names (sym named) ∙ fresh)
-    ∙ ap (λ (m : ℕ). item_verdict tys m w r) (sym count)
+    -- an earlier item has the name
+    pub is_repeated : (i k : ℕ) → i ≡ length checked → names (name_of w) ≡ Some k → IsAnswer n all (Err (c.Duplicate i k))
+    is_repeated i k g h =
+        let d : first_of (name_of w) es ≡ Some k = sym (s.named (name_of w)) ∙ h in
+        let l = g ∙ counted in
+        (s.units + 0, s.pass.answers 0 ∙ ap (check_after (s.units + 0) es) e ∙ rw (d, l) refl)
 
--- the next item is accepted
-pub advanced : (ws es rest : List Written) (tys : List Tree) (names : List ℕ → Option ℕ) (w : Written) (more es_new : List Written) (ty : Tree) (tys_new : List Tree) (names_new : List ℕ → Option ℕ)
-    → Standing ws es rest tys names → rest ≡ w ∷ more → es_new ≡ es ++ (w ∷ []) → names (name_of w) ≡ None
-    → ((r : FirstVerdict) → item_verdict tys (length tys) w r ≡ r) → ty ≡ type_of_item w → IsFirstType ty → depth ty ≤ 4096 → tys_new ≡ tys ++ (ty ∷ [])
-    → ((q : List ℕ) → names_new q ≡ cond (bytes_eq (name_of w) q) (Some (length tys)) (names q))
-    → Standing ws es_new more tys_new names_new
-advanced ws es rest tys names w more es_new ty tys_new names_new s e grown fresh accepted typed form shallow pushed named =
-    let n = next ws es rest tys names w more s e in
-    let over = subst (AreOver es) e s.over in
-    let forms = subst AreFirstItems e s.forms in
-    let verdict : first_check ws ≡ first_check_after (es ++ (w ∷ [])) more =
-    n.2 ∙ ap (λ (o : Option ℕ). by_name (length tys) o (item_verdict tys (length tys) w (first_check_after (es ++ (w ∷ [])) more))) fresh ∙ accepted _ in
-    record {
-      types = pushed ∙ ap (λ (l : List Tree). l ++ (ty ∷ [])) s.types ∙ ap (λ (a : Tree). types_of es ++ (a ∷ [])) typed ∙ sym (more_types es w) ∙ ap types_of (sym grown);
-      named = λ q. named_more q es w (names q) (names_new q) (sym (s.named (name_of w)) ∙ fresh) (s.named q) (named q ∙ ap (λ (k : ℕ). cond (bytes_eq (name_of w) q) (Some k) (names q)) (counted ws es rest tys names s))
-          ∙ ap (first_of q) (sym grown);
-      same = verdict ∙ ap (λ (l : List Written). first_check_after l more) (sym grown);
-      done = subst AreFirstItems (sym grown) (more_items es w s.done forms.0);
-      forms = forms.1;
-      over = subst (λ (l : List Written). AreOver l more) (sym grown) over.1;
-      known = subst AreTypes (sym pushed) (All-push (λ a. IsFirstType a × (depth a ≤ 4096)) tys ty s.known (form, shallow));
-    }
+    module _ (fresh : names (name_of w) ≡ None) where
+      is_new : first_of (name_of w) es ≡ None
+      is_new = sym (s.named (name_of w)) ∙ fresh
 
-pub finished : (ws es rest : List Written) (tys : List Tree) (names : List ℕ → Option ℕ) → Standing ws es rest tys names → rest ≡ [] → first_check ws ≡ accepts
-finished ws es rest tys names s e = s.same ∙ ap (first_check_after es) e
+      -- what is found of the item stays with the units so far
+      item_stays : (k : ℕ) (x : Finding) → IsFirm x → check_item k es w ≡ x → check_item (s.units + k) es w ≡ x
+      item_stays k x i h =
+          let q : k + s.units ≡ s.units + k = omega arith in
+          subst (λ z. check_item z es w ≡ x) q (firm_more (bodies (signature es)) k s.units (infer_item (signature es) w) x i h)
+
+      -- the verdict, by what is found of the item
+      verdict : (k : ℕ) (x : Finding) → IsFirm x → check_item k es w ≡ x → check_items (s.units + k) all ≡ by_finding (length es) x (check_after (s.units + k) (es ++ (w ∷ [])) more)
+      verdict k x i h =
+          s.pass.answers k ∙ ap (check_after (s.units + k) es) e ∙ ap (λ z. by_name (length es) z (by_finding (length es) (check_item (s.units + k) es w) (check_after (s.units + k) (es ++ (w ∷ [])) more))) is_new
+          ∙ ap (λ z. by_finding (length es) z (check_after (s.units + k) (es ++ (w ∷ [])) more)) (item_stays k x i h)
+
+      -- the item is not accepted
+      pub is_faulty : (i : ℕ) (d : Fault) (x : CoreFault) → i ≡ length checked → IsOfItem i d x → Meets es n (infer_item (signature es) w) (Err d) → IsAnswer n all (Err x)
+      unfolding Meets
+      is_faulty i (f.Refused p v) (c.Refused j q u) g (k, l, o) (r, h, t) =
+          let a = k ∙ g ∙ counted in rw (a, l, o) (s.units + h.units, r, verdict h.units (refused p.items r) tt h.is, t)
+      is_faulty i (f.Undecided p) (c.Undecided j q) g (k, l) (m, h) =
+          let a = k ∙ g ∙ counted in
+          let b : n + m + s.units ≡ s.units + (n + m) = omega arith in
+          let d : s.units + (n + m) ≡ n + (s.units + m) = omega arith in
+          let u = subst (λ z. IsUndecided n z all (length es) p.items) d (s.pass.undecided n (n + m) (length es) p.items
+          (subst (λ z. UndecidedAfter n (s.units + (n + m)) es z (length es) p.items) (sym e) (is_new, inl (refl, subst (λ z. SpentAfter (bodies (signature es)) n z p.items (infer_item (signature es) w)) b (spent_more (bodies (signature es)) n (n + m) s.units p.items (infer_item (signature es) w) h))))) in
+          rw (a, l) (s.units + m, u)
+      is_faulty i f.TooDeep (c.TooDeep j) g k (m, h) = let a = k ∙ g ∙ counted in rw a (s.units + m, verdict m (halts deep) tt h)
+      is_faulty i f.NoMemory c.NoMemory g k h = tt
+      is_faulty i (f.Refused p v) (c.Undecided j q) g k h = absurd k
+      is_faulty i (f.Refused p v) (c.Duplicate j l) g k h = absurd k
+      is_faulty i (f.Refused p v) (c.TooDeep j) g k h = absurd k
+      is_faulty i (f.Refused p v) c.NoMemory g k h = absurd k
+      is_faulty i (f.Undecided p) (c.Refused j q u) g k h = absurd k
+      is_faulty i (f.Undecided p) (c.Duplicate j l) g k h = absurd k
+      is_faulty i (f.Undecided p) (c.TooDeep j) g k h = absurd k
+      is_faulty i (f.Undecided p) c.NoMemory g k h = absurd k
+      is_faulty i f.TooDeep (c.Refused j q u) g k h = absurd k
+      is_faulty i f.TooDeep (c.Undecided j q) g k h = absurd k
+      is_faulty i f.TooDeep (c.Duplicate j l) g k h = absurd k
+      is_faulty i f.TooDeep c.NoMemory g k h = absurd k
+      is_faulty i f.NoMemory (c.Refused j q u) g k h = absurd k
+      is_faulty i f.NoMemory (c.Undecided j q) g k h = absurd k
+      is_faulty i f.NoMemory (c.Duplicate j l) g k h = absurd k
+      is_faulty i f.NoMemory (c.TooDeep j) g k h = absurd k
+
+      -- the item is accepted
+      pub advances : (a : Tree) (es' checked' : List Written) (names' : List ℕ → Option ℕ) → es' ≡ es ++ (w ∷ []) → checked' ≡ checked ++ (w ∷ []) → ((q : List ℕ) → names' q ≡ cond (bytes_eq (name_of w) q) (Some (length checked)) (names q))
+          → Meets es n (infer_item (signature es) w) (Ok a) → Standing all es' more checked' names'
+      unfolding Meets
+      advances a es' checked' names' g h k (m, y) =
+          let firm : (j : ℕ) → check_item (m + j) es w ≡ gives a = λ j. firm_more (bodies (signature es)) m j (infer_item (signature es) w) (gives a) tt y in
+          record {
+            units = s.units + m;
+            pass = rw g (later m firm);
+            done = h ∙ ap (λ z. z ++ (w ∷ [])) s.done ∙ sym g;
+            named = λ q. named_more q es w (names q) (names' q) is_new (s.named q) (k q ∙ ap (λ z. cond (bytes_eq (name_of w) q) (Some z) (names q)) counted) ∙ ap (first_of q) (sym g);
+            over = rw g ((subst (AreOver es) e s.over).1);
+          }
+        where
+          later : (m : ℕ) → ((j : ℕ) → check_item (m + j) es w ≡ gives a) → ItemsPass (s.units + m) (es ++ (w ∷ [])) more all
+          later m firm = record {
+            answers = λ j.
+                let q : s.units + (m + j) ≡ s.units + m + j = omega arith in
+                subst (λ z. check_items z all ≡ check_after z (es ++ (w ∷ [])) more) q (verdict (m + j) (gives a) tt (firm j));
+            undecided = λ d j i p u.
+                let q : s.units + m + j ≡ s.units + (m + j) = omega arith in
+                let v = subst (λ z. UndecidedAfter d z (es ++ (w ∷ [])) more i p) q u in
+                subst (λ z. IsUndecided d z all i p) (sym q)
+                (s.pass.undecided d (m + j) i p (subst (λ z. UndecidedAfter d (s.units + (m + j)) es z i p) (sym e) (is_new, inr ((a, item_stays (m + j) (gives a) tt (firm j)), v))));
+          }
+
+  -- all were accepted
+  pub is_finished : rest ≡ [] → (i : ℕ) → i ≡ length all → IsAnswer n all (Ok (record { items = i }))
+  is_finished e i g = ((s.units + 0, s.pass.answers 0 ∙ ap (check_after (s.units + 0) es) e), g)

@@ -1,64 +1,19 @@
 //! The check of files, item by item.
-ghost use Rattle.std.specs.Prelude.{◌≡◌, ◌<◌, ◌≤◌, ◌++◌, IfErr, IfOk, length, map};
-ghost use Rattle.cdle_model.specs.Classes.{AreItems, terms, types, within, Fits};
-ghost use Rattle.cdle_model.specs.Derivation.{AreDerived};
-ghost use Rattle.cdle_model.specs.FirstCheck.{AreFirstItems, FirstVerdict, IsFirstItem, IsFirstType};
-ghost use Rattle.cdle_model.specs.Depth.{depth};
+ghost use Rattle.std.specs.Prelude.{◌≡◌, ◌<◌, ◌++◌, IfErr, IfOk, length, map};
+ghost use Rattle.cdle_model.specs.Check.{check_items, infer_item};
+ghost use Rattle.cdle_model.specs.Classes.{AreItems, IsOver};
+ghost use Rattle.cdle_model.specs.Derivation.{signature};
+ghost use Rattle.cdle_model.specs.Fitting.{ItemHasErasures};
 ghost use Rattle.core_tree.specs.Items.{written};
-ghost use Rattle.core_check.specs.Answer.{IsAnswer, IsFaultOf};
-ghost use Rattle.core_check.specs.Context.{AreTypes, term_sorts};
-ghost use Rattle.core_check.specs.Items.{IsItemOver, item_verdict, items_of, type_of_item};
+ghost use Rattle.core_check.specs.Answer.{IsAnswer, IsTrue as IsTrueAnswer, MeetsItem, Tells};
+ghost use Rattle.core_check.specs.Items.{items_of};
 
-use crate::context::Context;
-use crate::infer::infer;
-use crate::same::is_same;
-use core_tree::{Checked, CoreFault, CoreFile, CoreItem, Guide, Kept, Path, Why};
+use crate::ask::Rules;
+use crate::fault::Fault;
+use core_reduce::CheckedItems;
+use core_tree::{Checked, CoreFault, CoreFile, CoreItem};
 use std::alloc::{AllocError, Global};
 use std::collections::HashMap;
-
-/// The body of an item is part 2 of it.
-const BODY: u32 = 2;
-
-/// Checks an item over items of these types. The answer is its own type, erased.
-fn check_item(
-    alloc: Global,
-    types: &[Guide],
-    number: u32,
-    item: &CoreItem,
-) -> Result<Guide, CoreFault>
-    requires form { IsFirstItem (written item.now) }
-    requires over { IsItemOver types.now (written item.now) }
-    requires types { AreTypes types.now }
-    ensures ok { IfOk result (λ ty. (rest : FirstVerdict) → item_verdict types.now number (written item.now) rest ≡ rest) }
-    ensures is { IfOk result (λ ty. ty ≡ type_of_item (written item.now)) }
-    ensures form { IfOk result IsFirstType }
-    ensures shallow { IfOk result (λ ty. depth ty ≤ 4096) }
-    ensures err { IfErr result (λ e. (rest : FirstVerdict) → IsFaultOf (item_verdict types.now number (written item.now) rest) e) }
-{
-    match item {
-        CoreItem::Def { ty, body, .. } => {
-            // the form of a written tree tells the proof that the tree is no deeper than 4,096
-            let _ = body.form();
-            let _ = ty.form();
-            let found = infer(alloc, types, &Context::Empty, body)?;
-            let wanted = ty.erase(alloc)?;
-            if is_same(&found, &wanted) {
-                return Ok(wanted);
-            }
-            let mut path = Vec::new(alloc);
-            path.push(BODY)?;
-            Err(CoreFault::Refused {
-                item: number,
-                path: Path::new(path),
-                why: Why::Mismatch {
-                    found: Kept::Whole(found),
-                    wanted: Kept::Whole(wanted),
-                },
-            })
-        }
-        CoreItem::TypeDef { .. } => unreachable!(),
-    }
-}
 
 /// Appends the items of a file.
 fn append_items<'a>(file: &'a CoreFile, items: &mut Vec<&'a CoreItem>) -> Result<(), AllocError>
@@ -81,20 +36,48 @@ fn all_items<'a>(alloc: Global, files: &'a Vec<CoreFile>) -> Result<Vec<&'a Core
     Ok(items)
 }
 
-/// Whether the items of the files, numbered from 0 over all of them, are accepted. At the first that is not: an earlier item has its name,
-/// or the type of its body is not the written one.
-pub fn check_files(alloc: Global, files: &Vec<CoreFile>) -> Result<Checked, CoreFault>
+/// Checks an item over those before it.
+fn check_item(
+    alloc: Global,
+    items: &CheckedItems,
+    budget: u64,
+    item: &CoreItem,
+) -> Result<(), Fault>
+    requires { IsOver items.now (written item.now) }
+    ensures meets { MeetsItem items.now budget (infer_item (signature items.now) (written item.now)) result }
+    ensures erasures { IfOk result (λ _. ItemHasErasures (written item.now)) }
+{
+    let rules = Rules {
+        alloc,
+        items,
+        budget,
+    };
+    rules.item(item)
+}
+
+/// Whether the items of the files, numbered from 0 over all of them, have a derivation by Core's rules, with so many units for each comparison
+/// and each head form. At the first item that is not accepted the answer tells why: an earlier item has its name, it breaks a rule, a question
+/// needs more units, or a tree would be deeper than 4,096.
+pub fn check_files(alloc: Global, files: &Vec<CoreFile>, budget: u64) -> Result<Checked, CoreFault>
     requires items { AreItems (items_of files.now.items) }
-    requires forms { AreFirstItems (items_of files.now.items) }
     requires few { length (items_of files.now.items) < 4294967295 }
-    ensures answer { IsAnswer (items_of files.now.items) result }
-    ensures derived { IfOk result (λ _. AreDerived (items_of files.now.items)) }
+    ensures answer { IsAnswer budget (items_of files.now.items) result }
+    ensures so { Tells (check_items budget (items_of files.now.items)) result }
+    ensures is_true { IsTrueAnswer (items_of files.now.items) result }
+{
+    check_all(alloc, files, budget)
+}
+
+fn check_all(alloc: Global, files: &Vec<CoreFile>, budget: u64) -> Result<Checked, CoreFault>
+    requires items { AreItems (items_of files.now.items) }
+    requires few { length (items_of files.now.items) < 4294967295 }
+    ensures { IsAnswer budget (items_of files.now.items) result }
 {
     let items = all_items(alloc, files)?;
-    let mut types = Vec::new(alloc);
+    let mut checked = CheckedItems::new(alloc);
     let mut names: HashMap<String, u32> = HashMap::new(alloc);
     for item in &items {
-        let number = types.len() as u32;
+        let number = checked.len();
         let name = item.name().as_str();
         if let Some(earlier) = names.get(name) {
             return Err(CoreFault::Duplicate {
@@ -102,11 +85,13 @@ pub fn check_files(alloc: Global, files: &Vec<CoreFile>) -> Result<Checked, Core
                 earlier: *earlier,
             });
         }
-        let ty = check_item(alloc, &types, number, item)?;
+        if let Err(fault) = check_item(alloc, &checked, budget, item) {
+            return Err(fault.of_item(number));
+        }
         names.insert(String::from_str(alloc, name)?, number)?;
-        types.push(ty)?;
+        checked.add(alloc, item)?;
     }
     Ok(Checked {
-        items: types.len() as u32,
+        items: checked.len(),
     })
 }

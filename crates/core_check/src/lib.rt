@@ -1,15 +1,21 @@
-//! The checker of Core files, for the forms that it knows so far.
+//! The checker of Core files.
 //!
-//! `check_files` infers the type of each item's body by Core's rules and compares it, as a whole tree, with the written type. It accepts
-//! exactly where the definition's check of these forms accepts, and what it accepts has a derivation by Core's rules; it refuses exactly
-//! where the definition does, with the item, the path, and the types found and wanted.
-//! It stands on the definitions (`cdle_model`) and on the trees (`core_tree`) alone.
+//! `check_files` reads Core's rules upwards over the items of files, in their order, and puts to comparison and head forms what each rule asks, with a
+//! budget for each question. What it accepts has a derivation; the items up to one that it refuses have none; every refusal is the definitions', with
+//! item, path and values; and wherever the definitions' check has a verdict at the budget given, the answer is that verdict, or want of memory.
+//! It stands on the comparison (`core_compare`), on head forms (`core_reduce`), on the trees (`core_tree`) and on the definitions (`cdle_model`) alone.
 #![tactic(auto)]
 
+mod ask;
 mod check;
 mod context;
-mod infer;
-mod same;
+mod fault;
+mod item;
+mod kind;
+mod limit;
+mod sides;
+mod term;
+mod ty;
 
 pub use check::check_files;
 pub use core_tree::{Checked, CoreFault, Why};

@@ -159,7 +159,7 @@ impl Side {
     }
 
     /// The pure term as one tree, of any depth that a tree can have.
-    pub(crate) fn flat_pure(&self, alloc: Global) -> Result<Pure, NoMemory>
+    pub fn flat_pure(&self, alloc: Global) -> Result<Pure, NoMemory>
         requires { self.now.class ≡ OfPure }
         ensures { IfOk result (λ t. t ≡ self.now.tree) }
     {
