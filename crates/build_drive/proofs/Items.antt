@@ -26,7 +26,7 @@ over-append ds (e ∷ es) ws h g = (h.0, over-append (ds ++ (e ∷ [])) es ws h.
 
 -- what bytes say behind items is over these
 pub said-over : (bytes : List ℕ) (es ws : List Written) → Says bytes (with_items es []) ws → AreOver es ws
-said-over bytes es ws h = (file_read 1023 (tokens false 0 bytes) es ws h.file).0
+said-over bytes es ws h = file_read 1023 (tokens false 0 bytes) es ws h.file
 
 pub items-push : (fs : List CoreFile) (f : CoreFile) → items_of (fs ++ (f ∷ [])) ≡ items_of fs ++ f.items
 items-push [] f = append-nil f.items

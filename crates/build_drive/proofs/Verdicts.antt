@@ -1,6 +1,6 @@
 -- The outcome of the check: from the checker's fault to it, and that where the plain check with n units is not spent, there is one.
 use Rattle.std.proofs.Common.{◌≡◌, ◌∙◌, ℕ, true, false, List, [], Option, Some, None, length, refl, sym, ap, ap₂, subst, slice_get, arith}
-use Rattle.std.specs.Prelude.{if◌then◌else◌, nat_le}
+use Rattle.std.specs.Prelude.{Err, if◌then◌else◌, nat_le}
 use Rattle.std.proofs.lemmas.Bool.Decides.{nat_tests}
 use Rattle.cdle_folder.specs.Files.{Bytes}
 use Rattle.cdle_model.specs.Check.{Reason, not_a_function, not_an_intersection, not_an_equation, wrong_kind, mismatch, erased_use, parts_differ, not_booleans, sides_differ, ListVerdict, accepts, refuses, spends, ends, duplicate, check_items}
@@ -13,7 +13,7 @@ use Rattle.cdle_model.specs.Classes.{AreItems}
 use Rattle.cdle_model.proofs.CheckLargerBudget.{list-stays}
 use Rattle.cdle_model.proofs.ItemsChecked.{duplicate-lost, refused-lost}
 use Rattle.cdle_model.proofs.Undecided.{undecided-spent}
-use Rattle.core_check.specs.Answer.{IsFaultOf}
+use Rattle.core_check.specs.Answer.{IsAnswer}
 use Rattle.core_check.specs.Reasons.{IsWhy}
 use Rattle.core_reduce.specs.Sides.{IsKept}
 use Rattle.core_tree.specs.declared.faults.CoreFault.TheVariants as fault
@@ -29,12 +29,12 @@ use Rattle.build_drive.specs.declared.outcome.Spot.TheVariants.{CoreSpot}
 
 -- ---- from a fault to its outcome
 
-pub refused-verdict : (n : ℕ) (ws : List Written) (i : ℕ) (path : List ℕ) (why : Why) (name : Bytes) → AreItems ws → IsFaultOf n ws (fault.Refused i path why) → IsItemName ws i name
+pub refused-verdict : (n : ℕ) (ws : List Written) (i : ℕ) (path : List ℕ) (why : Why) (name : Bytes) → AreItems ws → IsAnswer n ws (Err (fault.Refused i path why)) → IsItemName ws i name
     → IsVerdict n ws (outcome.Refused (CoreSpot name path) (Core why))
 refused-verdict n ws i path why name over h item =
     (h.0, subst (λ v. Tells ws v (outcome.Refused (CoreSpot name path) (Core why))) (sym h.2) ((item, refl), h.3, refused-lost ws over h.0 i path h.1 h.2))
 
-pub duplicate-verdict : (n : ℕ) (ws : List Written) (i earlier : ℕ) (name : Bytes) → AreItems ws → IsFaultOf n ws (fault.Duplicate i earlier) → IsItemName ws i name
+pub duplicate-verdict : (n : ℕ) (ws : List Written) (i earlier : ℕ) (name : Bytes) → AreItems ws → IsAnswer n ws (Err (fault.Duplicate i earlier)) → IsItemName ws i name
     → IsVerdict n ws (outcome.Refused (CoreSpot name []) (Duplicate earlier))
 duplicate-verdict n ws i earlier name over h item =
     (h.0, subst (λ v. Tells ws v (outcome.Refused (CoreSpot name []) (Duplicate earlier))) (sym h.1) ((item, refl), refl, duplicate-lost ws over h.0 i earlier h.1))

@@ -1,7 +1,7 @@
 //! The check of all items.
-ghost use Rattle.std.specs.Prelude.{◌≡◌, ◌<◌, ◌≤◌, [], IfOk, length};
+ghost use Rattle.std.specs.Prelude.{◌≡◌, ◌<◌, ◌≤◌, [], Err, IfOk, length};
 ghost use Rattle.cdle_model.specs.Classes.{AreItems};
-ghost use Rattle.core_check.specs.Answer.{IsFaultOf};
+ghost use Rattle.core_check.specs.Answer.{IsAnswer};
 ghost use Rattle.core_check.specs.Items.{items_of};
 ghost use Rattle.build_drive.specs.Answers.{most_items};
 ghost use Rattle.build_drive.specs.Calls.{IsReported};
@@ -19,7 +19,6 @@ use std::alloc::Global;
 pub(crate) fn checked(alloc: Global, files: &Vec<CoreFile>, budget: u64) -> Result<Done, NoMemory>
     requires items { AreItems (items_of files.now.items) }
     requires few { length (items_of files.now.items) ≤ most_items }
-    requires budget { budget ≤ 10000000 }
     ensures verdict { IfOk result (λ done. IsVerdict budget (items_of files.now.items) done.outcome) }
     ensures report { IfOk result (IsReported []) }
 {
@@ -41,7 +40,7 @@ fn refused(
     fault: CoreFault,
 ) -> Result<Outcome, NoMemory>
     requires items { AreItems (items_of files.now.items) }
-    requires fault { IsFaultOf budget (items_of files.now.items) fault }
+    requires fault { IsAnswer budget (items_of files.now.items) (Err fault) }
     ensures verdict { IfOk result (IsVerdict budget (items_of files.now.items)) }
     ensures shown { IfOk result (IsShown []) }
 {

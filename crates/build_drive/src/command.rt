@@ -1,5 +1,5 @@
 //! The command `core`.
-ghost use Rattle.std.specs.Prelude.{◌≡◌, ◌≤◌, ◌⊎◌, [], ℕ, IfErr, IfOk, List, Some, length, map, string_bytes};
+ghost use Rattle.std.specs.Prelude.{◌≡◌, ◌⊎◌, [], ℕ, IfErr, IfOk, List, Some, length, map, string_bytes};
 ghost use Rattle.cdle_folder.specs.Causes.{Quiet};
 ghost use Rattle.cdle_folder.specs.Files.{Files};
 ghost use Rattle.cdle_model.specs.Check.{accepts, check_items};
@@ -28,8 +28,6 @@ pub fn core_command<F: Folder>(
     budget: u64,
     folder: &mut F,
 ) -> Done
-    requires { budget ≤ 10000000 }
-
     // The end of the call with its cause: what was seen of the files, and what they say.
     ensures call { IsCall budget (record {
       files = F.files folder.old;
@@ -90,7 +88,6 @@ fn work<F: Folder>(
     budget: u64,
     folder: &mut F,
 ) -> Result<Done, Stop>
-    requires { budget ≤ 10000000 }
     ensures files { F.files folder.new ≡ F.files folder.old }
     ensures done { IfOk result (IsWork (IsVerdict budget) (record {
       files = F.files folder.old;

@@ -202,6 +202,9 @@ fn word_of(wanted: CoreWanted) -> &'static str
         CoreWanted::Kind => "kind",
         CoreWanted::Ty => "type",
         CoreWanted::Term => "term",
+        CoreWanted::Pure => "pure term",
+        CoreWanted::Guide => "guide",
+        CoreWanted::GuideKind => "guide kind",
         CoreWanted::Close => ")",
     }
 }
