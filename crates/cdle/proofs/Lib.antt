@@ -1,6 +1,2 @@
-pub mod Outcomes
-pub mod Sights
-pub mod Exact
-pub mod Verdicts
-pub mod Runs
-pub mod Texts
+pub mod Works
+pub mod Ends

@@ -1,5 +1,2 @@
-pub mod Words
-pub mod Call
-pub mod Answers
-pub mod Reports
-pub mod Works
+pub mod Work
+pub mod Run

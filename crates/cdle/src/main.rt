@@ -1,20 +1,16 @@
 //! The program `cdle`, which checks Core files.
 //!
 //! `cdle_run` does all that the program does, over any folder and any sink, and its contract is the theorem of the product: `Ok` says that
-//! every file was read to its end and that the list of its items has a derivation by Core's rules, and every other answer has its cause.
-//! It stands on the reader (`core_text`), the checker (`core_check`), the folder and sink (`cdle_folder`) and `cdle_names`. `main` is the
-//! trusted edge: it fetches the words, and hands the real folder and the real output to `cdle_run`.
+//! every file of the words was read to its end and that the list of all their items has a derivation by Core's rules, what it refuses has
+//! none, and every other answer has its cause. It stands on the command `core` (`build_drive`), the words (`cdle_words`), and the folder and
+//! sink (`cdle_folder`). `main` is the trusted edge: it fetches the words, and hands the real folder and the real output to `cdle_run`.
 #![tactic(auto)]
 
-mod outcome;
-mod report;
 mod run;
-mod words;
-mod work;
 
+pub use build_drive::{Badness, Outcome, Reason, Spot};
 use cdle_folder::{DirFolder, StdSink};
-pub use outcome::{Badness, Exit, Outcome, Reason, Spot};
-pub use run::cdle_run;
+pub use run::{Exit, cdle_run};
 use std::process::ExitCode;
 use std::{env, io};
 

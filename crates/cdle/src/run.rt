@@ -1,20 +1,30 @@
 //! The top call.
-ghost use Rattle.std.specs.Prelude.{◌≡◌, ◌⊎◌, Some, map, string_bytes};
+ghost use Rattle.std.specs.Prelude.{◌≡◌, ◌⊎◌, [], ℕ, List, None, Some, length, map, string_bytes};
 ghost use Rattle.cdle_folder.specs.Causes.{Quiet};
-ghost use Rattle.cdle_folder.specs.Files.{Files};
-ghost use Rattle.cdle.specs.Answers.{IsOutcome};
-ghost use Rattle.cdle.specs.Call.{seen};
-ghost use Rattle.cdle.specs.Reports.{Ends, IsRun, IsShown, report_of, status_of};
-ghost use Rattle.cdle.specs.Words.{asked_file};
-ghost use Rattle.cdle.specs.declared.outcome.Outcome.{Outcome as OutcomeOf};
-ghost use Rattle.cdle.specs.declared.outcome.Outcome.TheVariants.{NoMemory as Wanted};
+ghost use Rattle.cdle_folder.specs.Files.{Bytes, Files};
+ghost use Rattle.cdle_model.specs.Check.{accepts, check_items};
+ghost use Rattle.cdle_model.specs.Forms.{Written};
+ghost use Rattle.cdle_words.specs.Words.{command_of, core};
+ghost use Rattle.build_drive.specs.Calls.{AreThere, IsReported};
+ghost use Rattle.build_drive.specs.Reports.{status_of};
+ghost use Rattle.build_drive.specs.declared.outcome.Outcome.{Outcome as OutcomeOf};
+ghost use Rattle.build_drive.specs.declared.outcome.Outcome.TheVariants.{NoMemory as Wanted, Ok as Accepted, Refused as Rejected, Usage as NoCommand};
+ghost use Rattle.build_drive.specs.declared.outcome.Reason.{Reason as ReasonOf};
+ghost use Rattle.build_drive.specs.declared.outcome.Spot.{Spot as SpotOf};
+ghost use Rattle.cdle.specs.Run.{Ends, IsRun, told};
+ghost use Rattle.cdle.specs.Work.{IsAccepted, IsDetermined, IsRefused, IsWanting, IsWork};
 
-use crate::outcome::{Exit, Outcome};
-use crate::report::report;
-use crate::work::answer;
+use build_drive::{Done, Outcome, core_command};
 use cdle_folder::{Folder, Sink};
-use cdle_model::NoMemory;
+use cdle_words::{Asked, WordsFault, command_asked};
 use std::alloc::Global;
+
+/// The end of a call: the program's status, and its cause.
+#[derive(Drop)]
+pub struct Exit {
+    pub status: u8,
+    pub outcome: Outcome,
+}
 
 /// Does what the words ask for, over the folder, and puts one report.
 pub fn cdle_run<F: Folder, S: Sink>(
@@ -25,10 +35,9 @@ pub fn cdle_run<F: Folder, S: Sink>(
 ) -> Exit
     ensures status { result.status ≡ status_of result.outcome }
 
-    // The end of the call, with its cause: what was seen of the words and of the folder, and what the file's bytes say.
-    ensures run { IsRun
+    // The end of the call with its cause: what the words ask for, what was seen of the files and what they say, and what became of the report.
+    ensures run { IsRun (command_of (map string_bytes words.now.items))
         (record {
-          words = map string_bytes words.now.items;
           files = F.files folder.old;
           given = F.given folder.old;
           given_after = F.given folder.new;
@@ -39,32 +48,94 @@ pub fn cdle_run<F: Folder, S: Sink>(
         })
         (record { written = S.written out.old; written_after = S.written out.new; faults = S.faults out.old; faults_after = S.faults out.new }) result.outcome }
 
+    // Usage is answered only where the words are no command; that it is answered where they are none is said under `run` and `exact`.
+    ensures usage { result.outcome ≡ NoCommand → command_of (map string_bytes words.now.items) ≡ None }
+
+    // Accepted: each file of the words is read to its end, in their order, and the list of all items has a derivation.
+    ensures accepted { (modules items : ℕ) → result.outcome ≡ Accepted modules items → IsAccepted (command_of (map string_bytes words.now.items))
+        (record {
+          files = F.files folder.old;
+          given = F.given folder.old;
+          given_after = F.given folder.new;
+          read_faults = F.read_faults folder.old;
+          read_faults_after = F.read_faults folder.new;
+          absences = F.absences folder.old;
+          absences_after = F.absences folder.new;
+        }) items }
+
+    // Refused: likewise each file is read, and the items up to the one that is named have no derivation.
+    ensures refused { (place : SpotOf) (why : ReasonOf) → result.outcome ≡ Rejected place why → IsRefused (command_of (map string_bytes words.now.items))
+        (record {
+          files = F.files folder.old;
+          given = F.given folder.old;
+          given_after = F.given folder.new;
+          read_faults = F.read_faults folder.old;
+          read_faults_after = F.read_faults folder.new;
+          absences = F.absences folder.old;
+          absences_after = F.absences folder.new;
+        }) place }
+
     // No file is written.
     ensures files { F.files folder.new ≡ F.files folder.old }
 
-    // Where the folder tells its files, and no fault of folder or sink is counted, there is one outcome, which depends on the words and the
-    // files alone, and only want of memory may be answered in its place.
-    ensures exact { (files : Files) (outcome : OutcomeOf) → F.files folder.old ≡ Some files → Quiet (F.read_faults folder.old) (F.read_faults folder.new)
-        → Quiet (S.faults out.old) (S.faults out.new) → IsOutcome (seen (asked_file (map string_bytes words.now.items)) files) outcome
-        → (outcome ≡ Wanted → ⊥) → (result.outcome ≡ outcome) ⊎ (result.outcome ≡ Wanted) }
+    // Where the folder tells its files, and no fault of folder or sink is counted, there is one outcome, which the words and the files determine
+    // where the plain check with the words' budget is not spent; only want of memory may be answered in its place.
+    ensures exact { (f : Files) (o : OutcomeOf) → F.files folder.old ≡ Some f → Quiet (F.read_faults folder.old) (F.read_faults folder.new)
+        → Quiet (S.faults out.old) (S.faults out.new) → IsDetermined (command_of (map string_bytes words.now.items)) f o
+        → (result.outcome ≡ o) ⊎ (result.outcome ≡ Wanted) }
+
+    // So it accepts wherever the files of the words are there, within the limits, and the plain check with the words' budget accepts their items.
+    ensures complete { (f : Files) (files : List Bytes) (budget : ℕ) (all : List Written) → F.files folder.old ≡ Some f
+        → Quiet (F.read_faults folder.old) (F.read_faults folder.new) → Quiet (S.faults out.old) (S.faults out.new)
+        → command_of (map string_bytes words.now.items) ≡ Some (core files budget) → AreThere f [] files all → check_items budget all ≡ accepts
+        → (result.outcome ≡ Accepted 0 (length all)) ⊎ (result.outcome ≡ Wanted) }
 {
-    let work = answer(alloc, words, folder);
-    let outcome = put_report(alloc, work.outcome, &work.text, out);
+    let done = work(alloc, words, folder);
+    let outcome = put_report(done, out);
     Exit {
         status: outcome.status(),
         outcome,
     }
 }
 
-/// Puts the report of an outcome. That memory is wanting is said without any.
-fn put_report<S: Sink>(alloc: Global, outcome: Outcome, text: &[u8], out: &mut S) -> Outcome
-    requires { IsShown text.now outcome }
-    ensures { Ends (record { written = S.written out.old; written_after = S.written out.new; faults = S.faults out.old; faults_after = S.faults out.new }) (report_of text.now outcome) outcome result
-        ⊎ Ends (record { written = S.written out.old; written_after = S.written out.new; faults = S.faults out.old; faults_after = S.faults out.new }) (report_of text.now Wanted) Wanted result }
+/// Does what the words ask for.
+fn work<F: Folder>(alloc: Global, words: &Vec<String>, folder: &mut F) -> Done
+    ensures files { F.files folder.new ≡ F.files folder.old }
+    ensures work { IsWork (command_of (map string_bytes words.now.items))
+        (record {
+          files = F.files folder.old;
+          given = F.given folder.old;
+          given_after = F.given folder.new;
+          read_faults = F.read_faults folder.old;
+          read_faults_after = F.read_faults folder.new;
+          absences = F.absences folder.old;
+          absences_after = F.absences folder.new;
+        }) result }
 {
-    match report(alloc, &outcome, text) {
-        Ok(report) => put(outcome, report.as_bytes(), out),
-        Err(NoMemory) => put(Outcome::NoMemory, b"out of memory\n", out),
+    match command_asked(alloc, words) {
+        Ok(Asked::Core { files, budget }) => core_command(alloc, &files, budget, folder),
+        Err(WordsFault::Usage) => usage(alloc),
+        Err(WordsFault::NoMemory) => Done::no_memory(alloc),
+    }
+}
+
+/// That the words are no command, reported where there is memory.
+fn usage(alloc: Global) -> Done
+    ensures { IsWanting result ⊎ (result.outcome ≡ NoCommand) × IsReported [] result }
+{
+    match Done::new(alloc, Outcome::Usage, b"") {
+        Ok(done) => done,
+        Err(_) => Done::no_memory(alloc),
+    }
+}
+
+/// Puts the report. That memory is wanting is said without any.
+fn put_report<S: Sink>(done: Done, out: &mut S) -> Outcome
+    ensures { Ends (record { written = S.written out.old; written_after = S.written out.new; faults = S.faults out.old; faults_after = S.faults out.new }) (told done.outcome done.report.items) done.outcome result }
+{
+    match done.outcome {
+        Outcome::NoMemory => put(Outcome::NoMemory, b"out of memory\n", out),
+        outcome => put(outcome, &done.report, out),
     }
 }
 

@@ -1,9 +1,18 @@
-use Rattle.cdle.proofs.Exact.{exact}
-use Rattle.cdle.proofs.Runs.{run_of}
+use Rattle.cdle.proofs.Ends.{accepted_end, complete_end, exact_end, refused_end, usage_end}
 use Rattle.cdle.proofs.run.cdle_run.Goals as goal
 
-pub returns-clause-run : goal.returns-clause-run
-returns-clause-run g c = run_of _ _ _ _ _ _ c.deref.ensures.value c.answer-work.ensures.work c.put_report-outcome.ensures
+pub returns-clause-usage : goal.returns-clause-usage
+returns-clause-usage g c = λ e. usage_end _ _ _ _ (record { done = c.work-done.result; work = c.work-done.ensures.work; ends = c.put_report-outcome.ensures }) e
+
+pub returns-clause-accepted : goal.returns-clause-accepted
+returns-clause-accepted g c =
+    λ modules items e. accepted_end _ _ _ _ modules items (record { done = c.work-done.result; work = c.work-done.ensures.work; ends = c.put_report-outcome.ensures }) e
+
+pub returns-clause-refused : goal.returns-clause-refused
+returns-clause-refused g c = λ place why e. refused_end _ _ _ _ place why (record { done = c.work-done.result; work = c.work-done.ensures.work; ends = c.put_report-outcome.ensures }) e
 
 pub returns-clause-exact : goal.returns-clause-exact
-returns-clause-exact g c = λ f o told quiet silent h n. exact _ _ f _ o (run_of _ _ _ _ _ _ c.deref.ensures.value c.answer-work.ensures.work c.put_report-outcome.ensures) told quiet silent h n
+returns-clause-exact g c = λ f o told quiet silent x. exact_end _ _ _ _ f o (record { done = c.work-done.result; work = c.work-done.ensures.work; ends = c.put_report-outcome.ensures }) told quiet silent x
+
+pub returns-clause-complete : goal.returns-clause-complete
+returns-clause-complete g c = λ f files budget all told quiet silent e there ok. complete_end _ _ _ _ f files budget all (record { done = c.work-done.result; work = c.work-done.ensures.work; ends = c.put_report-outcome.ensures }) told quiet silent e there ok

@@ -1,0 +1,58 @@
+-- What the end of a call says, by the work.
+use Rattle.std.proofs.Common.{◌≡◌, ◌∙◌, ◌⊎◌, inl, inr, ℕ, List, [], Option, Some, None, length, sym, subst, refl, arith}
+use Rattle.cdle_folder.specs.Causes.{Quiet, Rose}
+use Rattle.cdle_folder.specs.Files.{Bytes, Files}
+use Rattle.cdle_model.specs.Check.{accepts, check_items}
+use Rattle.cdle_model.specs.Forms.{Written}
+use Rattle.cdle_words.specs.Words.{Command, core}
+use Rattle.build_drive.specs.Calls.{AreThere}
+use Rattle.build_drive.specs.Sights.{Visit}
+use Rattle.build_drive.specs.declared.outcome.Outcome.{Outcome}
+use Rattle.build_drive.specs.declared.outcome.Outcome.TheVariants as outcome
+use Rattle.build_drive.specs.declared.outcome.Reason.{Reason}
+use Rattle.build_drive.specs.declared.outcome.Spot.{Spot}
+use Rattle.cdle.specs.Run.{Ends, IsRun, Output, told}
+use Rattle.cdle.specs.Work.{IsAccepted, IsDetermined, IsRefused, IsWork}
+use Rattle.cdle.proofs.Works.{accepted_work, complete_work, exact_work, refused_work, usage_work}
+
+-- the work has it, and not the putting of its report
+abbrev IsOfWork : Outcome → Type 0
+IsOfWork (outcome.WriteFault None) = ⊥
+IsOfWork o = Unit {0}
+
+stands : (out : Output) (report : Bytes) (work end o : Outcome) → IsOfWork o → Ends out report work end → end ≡ o → work ≡ o
+stands out report work end o k (inl e) f = sym e.0 ∙ f
+stands out report work end o k (inr e) f = absurd (subst IsOfWork (sym f ∙ e.0) k)
+
+pub usage_end : (c : Option Command) (v : Visit) (out : Output) (end : Outcome) → IsRun c v out end → end ≡ outcome.Usage → c ≡ None
+usage_end c v out end r e = usage_work c v r.done r.work (stands out _ r.done.outcome end outcome.Usage tt r.ends e)
+
+pub accepted_end : (c : Option Command) (v : Visit) (out : Output) (end : Outcome) (modules items : ℕ) → IsRun c v out end → end ≡ outcome.Ok modules items → IsAccepted c v items
+accepted_end c v out end modules items r e = accepted_work c v r.done modules items r.work (stands out _ r.done.outcome end (outcome.Ok modules items) tt r.ends e)
+
+pub refused_end : (c : Option Command) (v : Visit) (out : Output) (end : Outcome) (place : Spot) (why : Reason) → IsRun c v out end → end ≡ outcome.Refused place why → IsRefused c v place
+refused_end c v out end place why r e = refused_work c v r.done place why r.work (stands out _ r.done.outcome end (outcome.Refused place why) tt r.ends e)
+
+-- ---- where nothing fails
+
+no_rise : {R : Type 0} (before now : ℕ) → Rose before now → Quiet before now → R
+no_rise before now rose quiet = absurd (omega (arith, rose, quiet.0, quiet.1))
+
+put_end : (out : Output) (report : Bytes) (work end : Outcome) → Quiet out.faults out.faults_after → Ends out report work end → end ≡ work
+put_end out report work end silent (inl e) = e.0
+put_end out report work end silent (inr e) = no_rise out.faults out.faults_after e.1 silent
+
+-- the end is the work's outcome, which is that one, or want of memory
+same_end : (end work o : Outcome) → end ≡ work → (work ≡ o) ⊎ (work ≡ outcome.NoMemory) → (end ≡ o) ⊎ (end ≡ outcome.NoMemory)
+same_end end work o e (inl k) = inl (e ∙ k)
+same_end end work o e (inr k) = inr (e ∙ k)
+
+pub exact_end : (c : Option Command) (v : Visit) (out : Output) (end : Outcome) (f : Files) (o : Outcome) → IsRun c v out end → v.files ≡ Some f → Quiet v.read_faults v.read_faults_after
+    → Quiet out.faults out.faults_after → IsDetermined c f o → (end ≡ o) ⊎ (end ≡ outcome.NoMemory)
+exact_end c v out end f o r files quiet silent x = same_end end r.done.outcome o (put_end out _ r.done.outcome end silent r.ends) (exact_work c v r.done f o r.work files quiet x)
+
+pub complete_end : (c : Option Command) (v : Visit) (out : Output) (end : Outcome) (f : Files) (files : List Bytes) (n : ℕ) (all : List Written) → IsRun c v out end → v.files ≡ Some f
+    → Quiet v.read_faults v.read_faults_after → Quiet out.faults out.faults_after → c ≡ Some (core files n) → AreThere f [] files all → check_items n all ≡ accepts
+    → (end ≡ outcome.Ok 0 (length all)) ⊎ (end ≡ outcome.NoMemory)
+complete_end c v out end f files n all r folder quiet silent e there ok =
+    same_end end r.done.outcome (outcome.Ok 0 (length all)) (put_end out _ r.done.outcome end silent r.ends) (complete_work c v r.done f files n all r.work folder quiet e there ok)

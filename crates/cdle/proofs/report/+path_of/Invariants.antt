@@ -1,5 +1,0 @@
-use Rattle.std.proofs.Common.{length}
-use Rattle.cdle.proofs.report.+path_of.Given as goal
-
-abbrev pub decreases-path_of : goal.decreases-path_of
-decreases-path_of l = length l.numbers.now
