@@ -1,7 +1,7 @@
 //! Answers, as they are printed.
 
-use core_tree::{Checked, CoreFault, Path, Why};
 use core_text::CoreTextFault;
+use core_tree::{Checked, CoreFault, Path, Why};
 use std::fmt;
 
 /// What became of a row.
@@ -58,7 +58,8 @@ fn word(why: &Why) -> &'static str {
         Why::NotAnIntersection { .. } => "not an intersection",
         Why::NotAnEquation { .. } => "not an equation",
         Why::WrongKind {
-            wanted: Some(_), ..
+            wanted: Some(_),
+            ..
         } => "wrong kind",
         Why::WrongKind { wanted: None, .. } => "no product of kinds",
         Why::Mismatch { .. } => "mismatch",

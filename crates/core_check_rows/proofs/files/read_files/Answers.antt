@@ -7,5 +7,5 @@ loop-text-preserved c = (
   tt,
   tt,
   one_more c.loop-text.files.items _ c.loop-text.items c.in_ok-file.file c.as_bytes.result.now _ _ _ c.loop-text.invariant.2 c.in_ok-file.ensures.ok c.in_ok-push.ensures.items c.in_ok-add.ensures.added
-  c.in_ok-add.ensures.counted (omega (arith, c.len-items.ensures)),
+      c.in_ok-add.ensures.counted (omega (arith, c.len-items.ensures)),
 )
