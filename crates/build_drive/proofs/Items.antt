@@ -59,9 +59,6 @@ get-behind (x ∷ xs) ys (suc n) h = get-behind xs ys n (omega (arith, h)) ∙ a
 pub data Stands (fs : List CoreFile) (item i n : ℕ) : Type 0 where
   stands : n < length (items_of (drop i fs)) → slice_get (items_of (drop i fs)) n ≡ slice_get (items_of fs) item → Stands fs item i n
 
-pub stands-first : (fs : List CoreFile) (item : ℕ) → item < length (items_of fs) → Stands fs item 0 item
-stands-first fs item lt = stands lt refl
-
 pub found : (fs : List CoreFile) (item i n : ℕ) (f : CoreFile) (w : Written) → i < length fs → f ≡ get_or fs i f → Stands fs item i n → slice_get f.items n ≡ Some w
     → slice_get (items_of fs) item ≡ Some w
 found fs item i n f w lt e (stands within same) h =
@@ -78,5 +75,3 @@ stands-next fs item i n f lt e (stands within same) h =
           (sym (get-behind f.items (items_of (drop (i + 1) fs)) n behind) ∙ ap (λ (gs : List CoreFile). slice_get (items_of gs) n) (sym d) ∙ same),
     )
 
-pub none-left : {R : Type 0} (fs : List CoreFile) (item i n : ℕ) → length fs ≤ i → Stands fs item i n → R
-none-left fs item i n done (stands within same) = let none = ap (λ (gs : List CoreFile). length (items_of gs)) (drop_all i fs done) in absurd (omega (arith, within, none))

@@ -81,10 +81,6 @@ ends_early Verdict u v files es known file more (stops.Ended d) t e come h =
     let all = come h.0 d.outcome (wider u v file more h.0 known d.outcome t h.2 h.1) (stopped Verdict es h.0 d.outcome x) in
     (all.0, all.1, all.2, subst (λ (text : Bytes). IsReported text d) (sym all.3) h.3)
 
--- nothing has come yet
-pub has_begun : (Verdict : List Written → Outcome → Type 0) (v : Visit) (files : List Bytes) → HasCome Verdict v files v.given [] files
-has_begun Verdict v files = λ s o saw x. (s, saw, x, refl)
-
 -- one more file was read
 pub has_come : (Verdict : List Written → Outcome → Type 0) (v : Visit) (files : List Bytes) (es ws : List Written) (known : List Name) (file : Bytes) (more : List Bytes)
     (told : Option Files) (given after : Option Reads) → told ≡ v.files → known ≡ names_of es → HasCome Verdict v files given es (file ∷ more)

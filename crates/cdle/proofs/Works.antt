@@ -25,10 +25,6 @@ pub wanting : (command : Option Command) (v : Visit) (d : Done) → IsWanting d 
 wanting None v d h = inl h
 wanting (Some (core files budget)) v d h = inl h
 
-pub no_command : (command : Option Command) (v : Visit) (d : Done) → command ≡ None → v.given_after ≡ v.given → IsWanting d ⊎ (d.outcome ≡ outcome.Usage) × IsReported [] d → IsWork command v d
-no_command command v d e given (inl h) = wanting command v d h
-no_command command v d e given (inr u) = subst (λ (c : Option Command). IsWork c v d) (sym e) (inr (u.0, u.1, given))
-
 -- ---- usage is no outcome of a command
 
 no_verdict : {R : Type 0} (ws : List Written) (v : ListVerdict) → Tells ws v outcome.Usage → R

@@ -18,9 +18,6 @@ built_shape name = (built (words_app name)).top
 abbrev pub rules : List Rule
 rules = filled budget_rule ∷ with_index 1 (filled value_rule) ∷ []
 
-rules_are : (name : Word) → (built_shape name).rules ≡ rules
-rules_are name = refl
-
 -- ---- what was met so far, and the parser's rows for it
 
 pub data Seen : Type 0 where

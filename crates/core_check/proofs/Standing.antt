@@ -88,9 +88,6 @@ pub record Standing (n : ℕ) (ws es rest : List Written) (names : List ℕ → 
   pub over : AreOver es rest
   pub passed : Passed n es
 
-pub begun : (n : ℕ) (ws : List Written) (names : List ℕ → Option ℕ) → ((q : List ℕ) → names q ≡ None) → AreItems ws → Standing n ws [] ws names
-begun n ws names h over = record { whole = refl; named = h; over = over; passed = none_pass n }
-
 -- the next item
 module _ (n : ℕ) (ws es rest : List Written) (names : List ℕ → Option ℕ) (w : Written) (more : List Written) (s : Standing n ws es rest names) (e : rest ≡ w ∷ more) where
   whole_is : ws ≡ es ++ (w ∷ more)
