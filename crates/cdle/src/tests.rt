@@ -162,7 +162,7 @@ fn malformed_texts(rt: HostRuntime) -> Result<(), Fail> {
         ),
         (
             b"core 1 ; \xc3\xa9\n(def \xc3\xa9 (allt X * X) (app X",
-            "2:27: malformed: wrong class X",
+            "2:26: malformed: unbound X",
         ),
         (b"core 1\xff", "1:7: malformed: not UTF-8"),
         (b"cor\n\xff", "2:1: malformed: not UTF-8"),
@@ -355,8 +355,18 @@ fn only(alloc: Global, call: u32) -> Result<Vec<u32>, Fail> {
     Ok(calls)
 }
 
+/// The same of `core a.core b.core`, where this call on the folder fails.
+fn answer_where_fails(alloc: Global, call: u32) -> Result<String, Fail> {
+    let mut folder = MemoryFolder::new(alloc, only(alloc, call)?);
+    folder.add("a.core", IDENTITY.as_bytes())?;
+    folder.add("b.core", IDENTITY.as_bytes())?;
+    let (exit, report) = run(alloc, "core a.core b.core", &mut folder, Vec::new(alloc))?;
+    let status = exit.status;
+    Ok(format!(in alloc; "{status} {report}")?)
+}
+
 #[test]
-fn faults(rt: HostRuntime) -> Result<(), Fail> {
+fn failing_reads(rt: HostRuntime) -> Result<(), Fail> {
     let alloc = rt.alloc();
     let rows = [
         (0, "5 cannot read a.core\n"),
@@ -364,22 +374,26 @@ fn faults(rt: HostRuntime) -> Result<(), Fail> {
         (2, "3 refused id: duplicate\n"),
     ];
     for (call, wanted) in rows.iter() {
-        let mut folder = MemoryFolder::new(alloc, only(alloc, *call)?);
-        folder.add("a.core", IDENTITY.as_bytes())?;
-        folder.add("b.core", IDENTITY.as_bytes())?;
-        let (exit, report) = run(alloc, "core a.core b.core", &mut folder, Vec::new(alloc))?;
-        let status = exit.status;
-        assert_eq!(rt; format!(in alloc; "{status} {report}")?.as_str(), *wanted);
+        assert_eq!(rt; answer_where_fails(alloc, *call)?.as_str(), *wanted);
     }
+    Ok(())
+}
 
+/// The end of `core a.core` over the identity, where this put fails, and what went out.
+fn identity_where_fails(alloc: Global, put: u32) -> Result<(Exit, String), Fail> {
     let mut folder = SureFolder::new(alloc);
     folder.add("a.core", IDENTITY.as_bytes())?;
-    let (exit, report) = run(alloc, "core a.core", &mut folder, only(alloc, 0)?)?;
-    assert_eq!(rt; report.as_str(), "");
-    assert_eq!(rt; exit.status, 6);
+    run(alloc, "core a.core", &mut folder, only(alloc, put)?)
+}
+
+#[test]
+fn failing_puts(rt: HostRuntime) -> Result<(), Fail> {
+    let alloc = rt.alloc();
+    let (exit, report) = identity_where_fails(alloc, 0)?;
+    assert!(rt; report.is_empty() && exit.status == 6);
     assert!(rt; matches!(&exit.outcome, Outcome::WriteFault { file: None }));
-    let (exit, report) = run(alloc, "core a.core", &mut folder, only(alloc, 1)?)?;
-    assert_eq!(rt; report.as_str(), "accepted 1\n");
+    let (exit, report) = identity_where_fails(alloc, 1)?;
+    assert!(rt; report.as_str() == "accepted 1\n" && exit.status == 0);
     assert!(rt;
         matches!(
             &exit.outcome,
