@@ -3,11 +3,11 @@ use Rattle.std.proofs.Common.{◌≡◌, ℕ, ◌+◌, Bool, true, false, List, 
 use Rattle.cdle_model.specs.declared.grammar.Sort.{Sort}
 use Rattle.cdle_model.specs.Trees.{Tree}
 use Rattle.cdle_model.specs.Forms.{eq, Written}
-use Rattle.cdle_model.specs.Classes.{TreeClass, guides, AreItems, Fits, within, item_sorts}
+use Rattle.cdle_model.specs.Classes.{guides, AreItems, Fits, within, item_sorts}
 use Rattle.cdle_model.specs.Machine.{answered}
 use Rattle.cdle_model.specs.HeadForms.{value, head_form}
 use Rattle.cdle_model.specs.Derivation.{bodies, signature}
-use Rattle.cdle_model.specs.Fitting.{IsErased, HaveErasures}
+use Rattle.cdle_model.specs.Fitting.{HaveErasures}
 use Rattle.cdle_model.specs.Check.{Reason, Questions, ask_same, ask_head, refuse, binder_parts, equation_parts, not_an_equation}
 use Rattle.cdle_model.proofs.ClassItems.{items-fit}
 use Rattle.cdle_model.proofs.ClassSteps.{HeadFits, head-fits}
@@ -79,9 +79,6 @@ module _ (es : List Written) (n i : ℕ) (x : Former) (c : SideClass) (a : Tree)
   pub parts_found : (p : Sided × Sided) → MeetsHeadForm es n (i ∷ []) c a (Ok v) → IsSplit x v (Ok p) → FindsParts es n asks (Ok p)
   parts_found p (t, s, l, k) d = λ f r h.
       l _ r (subst (λ z. Meets es n z r) (sym (ap (λ z. binder_parts (binder_of x) z f (refuse (i ∷ []) (other_form x t))) (form_is t p s d ∙ same_former x p.0 p.1 b) ∙ bound (binder_of x) p.0.tree p.1.tree f (refuse (i ∷ []) (other_form x t)))) h)
-
-  pub parts_fit : (p : Sided × Sided) → MeetsHeadForm es n (i ∷ []) c a (Ok v) → IsSplit x v (Ok p) → (vs : List Sort) (d : TreeClass) → IsErased d → Fits (within vs (item_sorts es)) d a → Fits (within vs (item_sorts es)) d (former_tree x (p.0 ∷ p.1 ∷ []))
-  parts_fit p (t, s, l, k) d = λ vs g j h. subst (Fits (within vs (item_sorts es)) g) (form_is t p s d) (k vs g j h)
 
   pub other_refuses : (f : Fault) → MeetsHeadForm es n (i ∷ []) c a (Ok v) → IsOther x v → IsRefusal (i ∷ []) (other_form x (value_tree c v)) f → FindsParts es n asks (Err f)
   other_refuses f (t, s, l, k) d h = λ g.

@@ -99,9 +99,6 @@ neutral_equation (bind g p q) n = tt
 abbrev HaveOne : List Sided → Type 0
 HaveOne ps = (a : Sided) × (ps ≡ a ∷ [])
 
-abbrev HaveTwo : List Sided → Type 0
-HaveTwo ps = (a : Sided) × (b : Sided) × (ps ≡ a ∷ b ∷ [])
-
 one_part : (c : SideClass) (ps : List Sided) → classes ps ≡ c ∷ [] → HaveOne ps
 one_part c [] e = absurd cc
 one_part c (a ∷ []) e = (a, refl)

@@ -6,7 +6,7 @@ use Rattle.std.proofs.lemmas.List.{append_assoc, append-nil}
 use Rattle.cdle_model.specs.Trees.{Tree}
 use Rattle.cdle_model.specs.Forms.{Written, name_of}
 use Rattle.cdle_model.specs.HeadForms.{deep}
-use Rattle.cdle_model.specs.Classes.{IsOver, AreOver, AreItems}
+use Rattle.cdle_model.specs.Classes.{IsOver, AreOver}
 use Rattle.cdle_model.specs.Derivation.{bodies, signature}
 use Rattle.cdle_model.specs.Check.{first_of}
 use Rattle.cdle_model.specs.Check.{Finding, gives, refused, halts, infer_item, by_name, by_finding, check_item, check_after, check_items, SpentAfter, UndecidedAfter, IsUndecided}
@@ -53,9 +53,6 @@ pub record Passed (n : ℕ) (es : List Written) : Type 0 where
   pub units : ℕ
   pub answers : (k : ℕ) (ws : List Written) → check_items (units + k) (es ++ ws) ≡ check_after (units + k) es ws
   pub undecided : (k : ℕ) (ws : List Written) (i : ℕ) (p : List ℕ) → UndecidedAfter n (units + k) es ws i p → IsUndecided n (units + k) (es ++ ws) i p
-
-pub none_pass : (n : ℕ) → Passed n []
-none_pass n = record { units = 0; answers = λ k ws. refl; undecided = λ k ws i p h. h }
 
 -- what is found of an item stays with more units
 finding_more : (es : List Written) (w : Written) (m k : ℕ) (x : Finding) → IsFirm x → check_item m es w ≡ x → check_item (k + m) es w ≡ x
