@@ -1,7 +1,7 @@
 -- The items of one file behind those of others.
 use Rattle.std.proofs.Common.{◌≡◌, ◌∙◌, false, ◌+◌, ◌-◌, ◌≤◌, ◌<◌, ℕ, zero, suc, inl, inr, List, [], ◌∷◌, ◌++◌, Some, None, drop, get_or, length, map, refl, slice_get, sym, ap, ap₂, subst, arith, append_assoc, length-append}
 use Rattle.std.proofs.Math.Seq.{drop-cons}
-use Rattle.std.proofs.lemmas.List.{append-nil, drop-map, drop_all, get_or_append_left}
+use Rattle.std.proofs.lemmas.List.{append-nil, drop-map, get_or_append_left}
 use Rattle.std.proofs.lemmas.Option.{get_or_from_slice_get, slice_get-get_or, slice_get_cases, slice_get_within}
 use Rattle.cdle_model.specs.Classes.{AreOver}
 use Rattle.cdle_model.specs.CoreNames.{Name, with_item, with_items}
@@ -74,4 +74,3 @@ stands-next fs item i n f lt e (stands within same) h =
       stands (omega (arith, within, behind, all, length-append f.items (items_of (drop (i + 1) fs))))
           (sym (get-behind f.items (items_of (drop (i + 1) fs)) n behind) ∙ ap (λ (gs : List CoreFile). slice_get (items_of gs) n) (sym d) ∙ same),
     )
-

@@ -1,5 +1,5 @@
 -- What the end of a call says, by the work.
-use Rattle.std.proofs.Common.{◌≡◌, ◌∙◌, ◌⊎◌, inl, inr, ℕ, List, [], Option, Some, None, length, sym, subst, refl, arith}
+use Rattle.std.proofs.Common.{◌≡◌, ◌∙◌, ◌⊎◌, inl, inr, ℕ, List, [], Option, Some, None, length, sym, subst, arith}
 use Rattle.cdle_folder.specs.Causes.{Quiet, Rose}
 use Rattle.cdle_folder.specs.Files.{Bytes, Files}
 use Rattle.cdle_model.specs.Check.{accepts, check_items}
@@ -11,8 +11,8 @@ use Rattle.build_drive.specs.declared.outcome.Outcome.{Outcome}
 use Rattle.build_drive.specs.declared.outcome.Outcome.TheVariants as outcome
 use Rattle.build_drive.specs.declared.outcome.Reason.{Reason}
 use Rattle.build_drive.specs.declared.outcome.Spot.{Spot}
-use Rattle.cdle.specs.Run.{Ends, IsRun, Output, told}
-use Rattle.cdle.specs.Work.{IsAccepted, IsDetermined, IsRefused, IsWork}
+use Rattle.cdle.specs.Run.{Ends, IsRun, Output}
+use Rattle.cdle.specs.Work.{IsAccepted, IsDetermined, IsRefused}
 use Rattle.cdle.proofs.Works.{accepted_work, complete_work, exact_work, refused_work, usage_work}
 
 -- the work has it, and not the putting of its report

@@ -7,7 +7,7 @@ use Rattle.cdle_model.specs.Forms.{Written}
 use Rattle.cdle_model.specs.HeadForms.{deep}
 use Rattle.cdle_words.specs.Words.{Command, core}
 use Rattle.build_drive.specs.Answers.{IsOutcome}
-use Rattle.build_drive.specs.Calls.{AreThere, IsReported}
+use Rattle.build_drive.specs.Calls.{AreThere}
 use Rattle.build_drive.specs.Checks.{IsVerdict, Tells}
 use Rattle.build_drive.specs.Sights.{Sight, Visit, absent, contents, every, last, too_long, unread}
 use Rattle.build_drive.specs.declared.done.Done.{Done}

@@ -1,7 +1,6 @@
 -- What the words of a call come to, before its report is put.
-use Rattle.std.specs.Prelude.{◌≡◌, ◌⊎◌, ℕ, List, [], Option, Some, None}
-use Rattle.cdle_folder.specs.Files.{Bytes, Files}
-use Rattle.cdle_model.specs.Forms.{Written}
+use Rattle.std.specs.Prelude.{◌≡◌, ◌⊎◌, ℕ, [], Option, Some, None}
+use Rattle.cdle_folder.specs.Files.{Files}
 use Rattle.cdle_words.specs.Words.{Command, core}
 use Rattle.build_drive.specs.Answers.{IsOutcome}
 use Rattle.build_drive.specs.Calls.{AreAccepted, AreRefused, IsCall, IsReported}
