@@ -1,4 +1,4 @@
--- What a call that accepts, or refuses, says of its files.
+-- What a call that accepts, refuses, or is undecided, says of its files.
 use Rattle.std.proofs.Common.{◌≡◌, ◌∙◌, ◌⊎◌, inl, inr, ◌++◌, ℕ, List, [], ◌∷◌, Option, Some, length, refl, sym, subst}
 use Rattle.cdle_folder.specs.Causes.{Quiet}
 use Rattle.cdle_folder.specs.Files.{Bytes, Files, Reads, with_read}
@@ -10,8 +10,9 @@ use Rattle.cdle_model.specs.Forms.{Written}
 use Rattle.cdle_model.specs.HeadForms.{deep}
 use Rattle.cdle_model.specs.declared.grammar.Count.TheVariants.{Bytes as OfBytes, Nesting, Items}
 use Rattle.cdle_model.proofs.ItemsChecked.{accepted-derived}
+use Rattle.cdle_model.proofs.Undecided.{undecided-spent}
 use Rattle.build_drive.specs.Answers.{IsOutcome, IsStopped, names_of}
-use Rattle.build_drive.specs.Calls.{AreAccepted, AreRead, AreRefused, AreThere, IsCall}
+use Rattle.build_drive.specs.Calls.{AreAccepted, AreRead, AreRefused, AreThere, AreUndecided, IsCall}
 use Rattle.build_drive.specs.Checks.{HaveNone, IsDecided, IsSpot, IsVerdict, Tells}
 use Rattle.build_drive.specs.Sights.{IsThere, Saw, Sight, Visit, absent, contents, every, last, too_long, unread}
 use Rattle.build_drive.specs.declared.done.Done.{Done}
@@ -27,6 +28,7 @@ use Rattle.build_drive.proofs.Items.{over-append, said-over}
 abbrev IsOfCheck : Outcome → Type 0
 IsOfCheck (outcome.Ok modules items) = Unit {0}
 IsOfCheck (outcome.Refused spot why) = Unit {0}
+IsOfCheck (outcome.Undecided spot budget) = Unit {0}
 IsOfCheck o = ⊥
 
 never : {R : Type 0} (known : List Name) (s : Sight) (o : Outcome) → IsOfCheck o → IsStopped known s o → R
@@ -50,7 +52,7 @@ all-read Verdict v given es files (unread name) o c saw h = never (names_of es) 
 all-read Verdict v given es files (last name bytes) o c saw h = never (names_of es) (last name bytes) o c h
 all-read Verdict v given es files s o c saw h = absurd saw
 
--- the outcome of a call that accepts or refuses
+-- the outcome of a call that the check decides, or leaves undecided
 checked : (n : ℕ) (v : Visit) (files : List Bytes) (d : Done) (o : Outcome) → IsOfCheck o → IsCall n v files d → d.outcome ≡ o → (all : List Written) × AreRead v v.given [] files all × IsVerdict n all o
 checked n v files d o c (inl none) e = absurd (subst IsOfCheck (sym e ∙ none.0) c)
 checked n v files d o c (inr w) e = all-read (IsVerdict n) v v.given [] files w.0 o c w.1 (subst (IsOutcome (IsVerdict n) [] w.0) e w.2)
@@ -77,6 +79,13 @@ pub refused : (n : ℕ) (v : Visit) (files : List Bytes) (d : Done) (spot : Spot
 refused n v files d spot why call e =
     let r = checked n v files d (outcome.Refused spot why) tt call e in
     let t = refused-told r.0 (check_items r.2.0 r.0) spot why r.2.1 in (r.0, r.1, t.0, t.1, t.2, t.3)
+
+pub undecided : (n : ℕ) (v : Visit) (files : List Bytes) (d : Done) (spot : Spot) (units : ℕ) → IsCall n v files d → d.outcome ≡ outcome.Undecided spot units
+    → (units ≡ n) × AreUndecided n v files spot
+undecided n v files d spot units call e =
+    let r = checked n v files d (outcome.Undecided spot units) tt call e in
+    let u = r.2 in
+    (u.0, (r.0, r.1, u.1, u.2, u.3, u.4, u.5, undecided-spent n u.4 r.0 u.1 u.2 u.5))
 
 -- ---- where nothing fails
 

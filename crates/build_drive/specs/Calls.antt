@@ -1,6 +1,7 @@
 -- The whole of a call of `core`.
 use Rattle.std.specs.Prelude.{◌≡◌, ◌⊎◌, ◌+◌, ◌≤◌, ◌++◌, ℕ, List, [], ◌∷◌, Option, Some, IfSome, length}
 use Rattle.cdle_folder.specs.Files.{Bytes, Files, Reads, with_read}
+use Rattle.cdle_model.specs.Check.{IsUndecided, check_items, spends}
 use Rattle.cdle_model.specs.CoreText.{Says}
 use Rattle.cdle_model.specs.Derivation.{AreDerived}
 use Rattle.cdle_model.specs.Forms.{Written}
@@ -38,6 +39,12 @@ AreAccepted v files items = (all : List Written) × AreRead v v.given [] files a
 -- refused there: every file was read to its end, and the items up to the one that is named have no derivation
 abbrev pub AreRefused : Visit → List Bytes → Spot → Type 0
 AreRefused v files place = (all : List Written) × AreRead v v.given [] files all × (i : ℕ) × (path : List ℕ) × IsSpot all i path place × HaveNone all i
+
+-- undecided there with n units: every file was read to its end; the comparison or head form there is spent with n units, and all before it pass
+-- with some number of them; and the plain check of all items with n units is spent, there or earlier
+abbrev pub AreUndecided : ℕ → Visit → List Bytes → Spot → Type 0
+AreUndecided n v files place = (all : List Written) × AreRead v v.given [] files all × (i : ℕ) × (path : List ℕ) × IsSpot all i path place
+    × (k : ℕ) × IsUndecided n (n + k) all i path × (j : ℕ) × (earlier : List ℕ) × (check_items n all ≡ spends j earlier)
 
 -- these files are in the folder, within the limits, and say in their order all the items behind es
 abbrev pub AreThere : Files → List Written → List Bytes → List Written → Type 0

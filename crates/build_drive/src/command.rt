@@ -5,14 +5,14 @@ ghost use Rattle.cdle_folder.specs.Files.{Files};
 ghost use Rattle.cdle_model.specs.Check.{accepts, check_items};
 ghost use Rattle.cdle_model.specs.Forms.{Written};
 ghost use Rattle.build_drive.specs.Answers.{IsOutcome};
-ghost use Rattle.build_drive.specs.Calls.{AreAccepted, AreRefused, AreThere, IsCall, IsWork};
+ghost use Rattle.build_drive.specs.Calls.{AreAccepted, AreRefused, AreThere, AreUndecided, IsCall, IsWork};
 ghost use Rattle.build_drive.specs.Checks.{IsDecided, IsVerdict};
 ghost use Rattle.build_drive.specs.Sights.{IsThere, Sight};
 ghost use Rattle.build_drive.specs.Works.{EndsEarly};
 ghost use Rattle.build_drive.specs.declared.outcome.Outcome.{Outcome as OutcomeOf};
 ghost use Rattle.build_drive.specs.declared.outcome.Reason.{Reason as ReasonOf};
 ghost use Rattle.build_drive.specs.declared.outcome.Spot.{Spot as SpotOf};
-ghost use Rattle.build_drive.specs.declared.outcome.Outcome.TheVariants.{NoMemory as Wanted, Ok as Accepted, Refused as Rejected};
+ghost use Rattle.build_drive.specs.declared.outcome.Outcome.TheVariants.{NoMemory as Wanted, Ok as Accepted, Refused as Rejected, Undecided as Unsettled};
 
 use crate::check::checked;
 use crate::done::{Done, Stop};
@@ -52,6 +52,18 @@ pub fn core_command<F: Folder>(
 
     // Refused: likewise each file is read, and the items up to the one that is named have no derivation.
     ensures refused { (place : SpotOf) (why : ReasonOf) → result.outcome ≡ Rejected place why → AreRefused (record {
+      files = F.files folder.old;
+      given = F.given folder.old;
+      given_after = F.given folder.new;
+      read_faults = F.read_faults folder.old;
+      read_faults_after = F.read_faults folder.new;
+      absences = F.absences folder.old;
+      absences_after = F.absences folder.new;
+    }) (map string_bytes files.now.items) place }
+
+    // Undecided: likewise each file is read; the question at that place is spent with this budget, and so is the plain check of all items, there
+    // or earlier.
+    ensures undecided { (place : SpotOf) (units : ℕ) → result.outcome ≡ Unsettled place units → (units ≡ budget) × AreUndecided budget (record {
       files = F.files folder.old;
       given = F.given folder.old;
       given_after = F.given folder.new;

@@ -12,8 +12,8 @@ use Rattle.build_drive.specs.declared.outcome.Outcome.TheVariants as outcome
 use Rattle.build_drive.specs.declared.outcome.Reason.{Reason}
 use Rattle.build_drive.specs.declared.outcome.Spot.{Spot}
 use Rattle.cdle.specs.Run.{Ends, IsRun, Output}
-use Rattle.cdle.specs.Work.{IsAccepted, IsDetermined, IsRefused}
-use Rattle.cdle.proofs.Works.{accepted_work, complete_work, exact_work, refused_work, usage_work}
+use Rattle.cdle.specs.Work.{IsAccepted, IsDetermined, IsRefused, IsSpent}
+use Rattle.cdle.proofs.Works.{accepted_work, complete_work, exact_work, refused_work, undecided_work, usage_work}
 
 -- the work has it, and not the putting of its report
 abbrev IsOfWork : Outcome → Type 0
@@ -32,6 +32,9 @@ accepted_end c v out end modules items r e = accepted_work c v r.done modules it
 
 pub refused_end : (c : Option Command) (v : Visit) (out : Output) (end : Outcome) (place : Spot) (why : Reason) → IsRun c v out end → end ≡ outcome.Refused place why → IsRefused c v place
 refused_end c v out end place why r e = refused_work c v r.done place why r.work (stands out _ r.done.outcome end (outcome.Refused place why) tt r.ends e)
+
+pub undecided_end : (c : Option Command) (v : Visit) (out : Output) (end : Outcome) (place : Spot) (units : ℕ) → IsRun c v out end → end ≡ outcome.Undecided place units → IsSpent c v place units
+undecided_end c v out end place units r e = undecided_work c v r.done place units r.work (stands out _ r.done.outcome end (outcome.Undecided place units) tt r.ends e)
 
 -- ---- where nothing fails
 

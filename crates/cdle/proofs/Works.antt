@@ -17,7 +17,7 @@ use Rattle.build_drive.specs.declared.outcome.Reason.{Reason}
 use Rattle.build_drive.specs.declared.outcome.Spot.{Spot}
 use Rattle.build_drive.proofs.Calls as calls
 use Rattle.build_drive.proofs.Theorem as theorem
-use Rattle.cdle.specs.Work.{IsAccepted, IsDetermined, IsRefused, IsWanting, IsWork}
+use Rattle.cdle.specs.Work.{IsAccepted, IsDetermined, IsRefused, IsSpent, IsWanting, IsWork}
 
 -- ---- the work, by what the words are
 
@@ -58,6 +58,11 @@ pub refused_work : (command : Option Command) (v : Visit) (d : Done) (place : Sp
 refused_work None v d place why (inl none) e = absurd (let x = none.0 in cc)
 refused_work None v d place why (inr u) e = absurd (let x = u.0 in cc)
 refused_work (Some (core files n)) v d place why h e = theorem.refused n v files d place why h e
+
+pub undecided_work : (command : Option Command) (v : Visit) (d : Done) (place : Spot) (units : ℕ) → IsWork command v d → d.outcome ≡ outcome.Undecided place units → IsSpent command v place units
+undecided_work None v d place units (inl none) e = absurd (let x = none.0 in cc)
+undecided_work None v d place units (inr u) e = absurd (let x = u.0 in cc)
+undecided_work (Some (core files n)) v d place units h e = theorem.undecided n v files d place units h e
 
 pub exact_work : (command : Option Command) (v : Visit) (d : Done) (f : Files) (o : Outcome) → IsWork command v d → v.files ≡ Some f → Quiet v.read_faults v.read_faults_after
     → IsDetermined command f o → (d.outcome ≡ o) ⊎ (d.outcome ≡ outcome.NoMemory)

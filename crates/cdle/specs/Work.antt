@@ -3,7 +3,7 @@ use Rattle.std.specs.Prelude.{◌≡◌, ◌⊎◌, ℕ, [], Option, Some, None}
 use Rattle.cdle_folder.specs.Files.{Files}
 use Rattle.cdle_words.specs.Words.{Command, core}
 use Rattle.build_drive.specs.Answers.{IsOutcome}
-use Rattle.build_drive.specs.Calls.{AreAccepted, AreRefused, IsCall, IsReported}
+use Rattle.build_drive.specs.Calls.{AreAccepted, AreRefused, AreUndecided, IsCall, IsReported}
 use Rattle.build_drive.specs.Checks.{IsDecided}
 use Rattle.build_drive.specs.Sights.{IsThere, Sight, Visit}
 use Rattle.build_drive.specs.declared.done.Done.{Done}
@@ -33,6 +33,11 @@ IsAccepted (Some (core files budget)) v items = AreAccepted v files items
 abbrev pub IsRefused : Option Command → Visit → Spot → Type 0
 IsRefused None v place = ⊥
 IsRefused (Some (core files budget)) v place = AreRefused v files place
+
+-- undecided there, with that budget: it is the words'; likewise each file was read, and the plain check of all items with it is spent
+abbrev pub IsSpent : Option Command → Visit → Spot → ℕ → Type 0
+IsSpent None v place units = ⊥
+IsSpent (Some (core files budget)) v place units = (units ≡ budget) × AreUndecided budget v files place
 
 -- where nothing fails, the words and these files determine the outcome, the plain check with the words' budget not being spent
 abbrev pub IsDetermined : Option Command → Files → Outcome → Type 0

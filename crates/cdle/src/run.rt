@@ -8,11 +8,11 @@ ghost use Rattle.cdle_words.specs.Words.{command_of, core};
 ghost use Rattle.build_drive.specs.Calls.{AreThere, IsReported};
 ghost use Rattle.build_drive.specs.Reports.{status_of};
 ghost use Rattle.build_drive.specs.declared.outcome.Outcome.{Outcome as OutcomeOf};
-ghost use Rattle.build_drive.specs.declared.outcome.Outcome.TheVariants.{NoMemory as Wanted, Ok as Accepted, Refused as Rejected, Usage as NoCommand};
+ghost use Rattle.build_drive.specs.declared.outcome.Outcome.TheVariants.{NoMemory as Wanted, Ok as Accepted, Refused as Rejected, Undecided as Unsettled, Usage as NoCommand};
 ghost use Rattle.build_drive.specs.declared.outcome.Reason.{Reason as ReasonOf};
 ghost use Rattle.build_drive.specs.declared.outcome.Spot.{Spot as SpotOf};
 ghost use Rattle.cdle.specs.Run.{Ends, IsRun, told};
-ghost use Rattle.cdle.specs.Work.{IsAccepted, IsDetermined, IsRefused, IsWanting, IsWork};
+ghost use Rattle.cdle.specs.Work.{IsAccepted, IsDetermined, IsRefused, IsSpent, IsWanting, IsWork};
 
 use build_drive::{Done, Outcome, core_command};
 use cdle_folder::{Folder, Sink};
@@ -74,6 +74,19 @@ pub fn cdle_run<F: Folder, S: Sink>(
           absences = F.absences folder.old;
           absences_after = F.absences folder.new;
         }) place }
+
+    // Undecided: likewise each file is read; the question at that place is spent with the words' budget, and so is the plain check of all items,
+    // there or earlier.
+    ensures undecided { (place : SpotOf) (units : ℕ) → result.outcome ≡ Unsettled place units → IsSpent (command_of (map string_bytes words.now.items))
+        (record {
+          files = F.files folder.old;
+          given = F.given folder.old;
+          given_after = F.given folder.new;
+          read_faults = F.read_faults folder.old;
+          read_faults_after = F.read_faults folder.new;
+          absences = F.absences folder.old;
+          absences_after = F.absences folder.new;
+        }) place units }
 
     // No file is written.
     ensures files { F.files folder.new ≡ F.files folder.old }

@@ -1,7 +1,7 @@
 use Rattle.std.proofs.Common.{inr}
 use Rattle.build_drive.specs.Checks.{IsVerdict}
 use Rattle.build_drive.proofs.Calls.{exact}
-use Rattle.build_drive.proofs.Theorem.{accepted, complete, refused}
+use Rattle.build_drive.proofs.Theorem.{accepted, complete, refused, undecided}
 use Rattle.build_drive.proofs.Works.{ended_work}
 use Rattle.build_drive.proofs.command.core_command.Goals as goal
 
@@ -10,6 +10,9 @@ returns-in-Ok-clause-accepted g c = λ modules items e. accepted c.args.budget _
 
 pub returns-in-Ok-clause-refused : goal.returns-in-Ok-clause-refused
 returns-in-Ok-clause-refused g c = λ place why e. refused c.args.budget _ _ c.in-Ok.done place why (inr c.in-Ok.ensures.done) e
+
+pub returns-in-Ok-clause-undecided : goal.returns-in-Ok-clause-undecided
+returns-in-Ok-clause-undecided g c = λ place units e. undecided c.args.budget _ _ c.in-Ok.done place units (inr c.in-Ok.ensures.done) e
 
 pub returns-in-Ok-clause-exact : goal.returns-in-Ok-clause-exact
 returns-in-Ok-clause-exact g c = λ f s o told quiet h x. exact c.args.budget _ _ c.in-Ok.done f s o (inr c.in-Ok.ensures.done) told quiet h x
@@ -22,6 +25,9 @@ returns-in-Err-Ended-clause-accepted g c = λ modules items e. accepted c.args.b
 
 pub returns-in-Err-Ended-clause-refused : goal.returns-in-Err-Ended-clause-refused
 returns-in-Err-Ended-clause-refused g c = λ place why e. refused c.args.budget _ _ c.in-Err-Ended.done place why (inr (ended_work (IsVerdict c.args.budget) _ _ _ _ c.in-Err-Ended.field-0-is c.in-Err-Ended.ensures.ended)) e
+
+pub returns-in-Err-Ended-clause-undecided : goal.returns-in-Err-Ended-clause-undecided
+returns-in-Err-Ended-clause-undecided g c = λ place units e. undecided c.args.budget _ _ c.in-Err-Ended.done place units (inr (ended_work (IsVerdict c.args.budget) _ _ _ _ c.in-Err-Ended.field-0-is c.in-Err-Ended.ensures.ended)) e
 
 pub returns-in-Err-Ended-clause-exact : goal.returns-in-Err-Ended-clause-exact
 returns-in-Err-Ended-clause-exact g c = λ f s o told quiet h x. exact c.args.budget _ _ c.in-Err-Ended.done f s o (inr (ended_work (IsVerdict c.args.budget) _ _ _ _ c.in-Err-Ended.field-0-is c.in-Err-Ended.ensures.ended)) told quiet h x

@@ -1,4 +1,4 @@
-use Rattle.cdle.proofs.Ends.{accepted_end, complete_end, exact_end, refused_end, usage_end}
+use Rattle.cdle.proofs.Ends.{accepted_end, complete_end, exact_end, refused_end, undecided_end, usage_end}
 use Rattle.cdle.proofs.run.cdle_run.Goals as goal
 
 pub returns-clause-usage : goal.returns-clause-usage
@@ -10,6 +10,9 @@ returns-clause-accepted g c =
 
 pub returns-clause-refused : goal.returns-clause-refused
 returns-clause-refused g c = λ place why e. refused_end _ _ _ _ place why (record { done = c.work-done.result; work = c.work-done.ensures.work; ends = c.put_report-outcome.ensures }) e
+
+pub returns-clause-undecided : goal.returns-clause-undecided
+returns-clause-undecided g c = λ place units e. undecided_end _ _ _ _ place units (record { done = c.work-done.result; work = c.work-done.ensures.work; ends = c.put_report-outcome.ensures }) e
 
 pub returns-clause-exact : goal.returns-clause-exact
 returns-clause-exact g c = λ f o told quiet silent x. exact_end _ _ _ _ f o (record { done = c.work-done.result; work = c.work-done.ensures.work; ends = c.put_report-outcome.ensures }) told quiet silent x
