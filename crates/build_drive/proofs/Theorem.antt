@@ -85,7 +85,8 @@ pub undecided : (n : ℕ) (v : Visit) (files : List Bytes) (d : Done) (spot : Sp
 undecided n v files d spot units call e =
     let r = checked n v files d (outcome.Undecided spot units) tt call e in
     let u = r.2 in
-    (u.0, (r.0, r.1, u.1, u.2, u.3, u.4, u.5, undecided-spent n u.4 r.0 u.1 u.2 u.5))
+    let spent = undecided-spent n u.4 r.0 u.1 u.2 u.5 in
+    (u.0, (r.0, r.1, u.1, u.2, u.3, u.4, u.5, spent.0, spent.1, spent.2))
 
 -- ---- where nothing fails
 

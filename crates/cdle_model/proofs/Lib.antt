@@ -31,6 +31,7 @@ pub mod SameJoined
 pub mod ApartNotJoined
 pub mod UniqueTypes
 pub mod ScopedTrees
+pub mod Scopes
 pub mod Signatures
 pub mod RenamedDerivations
 pub mod SubstitutedDerivations
@@ -39,6 +40,7 @@ pub mod CheckSteps
 pub mod TreeChecked
 pub mod ItemsChecked
 pub mod LargerBudget
+pub mod Leads
 pub mod CheckLargerBudget
 pub mod Undecided
 pub mod ClassSubstitution

@@ -11,7 +11,7 @@ use Rattle.cdle_model.proofs.ClassSubstitution.{fits-put}
 use Rattle.cdle_model.proofs.Scoping.{scoped_used}
 use Rattle.core_compare.specs.Answers.{ArePlaced}
 use Rattle.core_reduce.specs.Sides.{IsPlaced}
-use Rattle.core_reduce.proofs.Scopes.{fits_below_bound}
+use Rattle.cdle_model.proofs.Scopes.{fits_below_bound}
 use Rattle.core_check.proofs.Looked.{length_sorts}
 
 module _ (es : List Entry) (xs : List Sort) (few : length es ≤ 4096) where

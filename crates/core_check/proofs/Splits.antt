@@ -10,7 +10,8 @@ use Rattle.core_reduce.specs.declared.value.Former.{Former}
 use Rattle.core_reduce.specs.declared.value.Former.TheVariants as f
 use Rattle.core_reduce.specs.declared.value.Value.{Value}
 use Rattle.core_reduce.specs.declared.value.Value.TheVariants as v
-use Rattle.core_reduce.specs.Sides.{IsKept, Sided}
+use Rattle.core_reduce.specs.Sides.{Sided}
+use Rattle.core_tree.specs.Faults.{IsKept}
 use Rattle.core_reduce.specs.Values.{applied_to, classes, former_class, former_parts, former_tree, IsValueOf, value_tree}
 use Rattle.core_check.specs.Formers.{binder_of, Binds, IsOther, other_form}
 use Rattle.core_tree.specs.declared.faults.Kept.{Kept}

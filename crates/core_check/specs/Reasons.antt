@@ -3,7 +3,7 @@ use Rattle.std.specs.Prelude.{Some, None}
 use Rattle.cdle_model.specs.Check.{Reason, not_a_function, not_an_intersection, not_an_equation, wrong_kind, mismatch, erased_use, parts_differ, not_booleans, sides_differ}
 use Rattle.core_tree.specs.declared.faults.Why.{Why}
 use Rattle.core_tree.specs.declared.faults.Why.TheVariants as w
-use Rattle.core_reduce.specs.Sides.{IsKept}
+use Rattle.core_tree.specs.Faults.{IsKept}
 
 -- the answered reason is the definitions', with the same values, each kept whole or told to be deeper than 4,096
 abbrev pub IsWhy : Reason → Why → Type 0

@@ -5,7 +5,8 @@ ghost use Rattle.cdle_model.specs.Check.{ask_head, ask_same, binder_parts, misma
 ghost use Rattle.cdle_model.specs.Classes.{Fits, guide_kinds, guides, item_sorts, within};
 ghost use Rattle.cdle_model.specs.Trees.{Tree};
 ghost use Rattle.core_compare.specs.Answers.{ArePlaced};
-ghost use Rattle.core_reduce.specs.Sides.{IsKept, IsPlaced, class_trees};
+ghost use Rattle.core_reduce.specs.Sides.{IsPlaced, class_trees};
+ghost use Rattle.core_tree.specs.Faults.{IsKept};
 ghost use Rattle.core_reduce.specs.Values.{IsValueOf, classes, former_class, former_parts, former_tree};
 ghost use Rattle.core_reduce.specs.declared.side.SideClass.TheVariants.{OfKind, OfType};
 ghost use Rattle.core_check.specs.Faults.{IsStopped, path_of};

@@ -7,7 +7,8 @@ ghost use Rattle.cdle_model.specs.Derivation.{false_pure, true_pure};
 ghost use Rattle.cdle_model.specs.Forms.{eq, fn};
 ghost use Rattle.cdle_model.specs.Trees.{var};
 ghost use Rattle.core_compare.specs.Answers.{ArePlaced};
-ghost use Rattle.core_reduce.specs.Sides.{IsKept, IsPlaced};
+ghost use Rattle.core_reduce.specs.Sides.{IsPlaced};
+ghost use Rattle.core_tree.specs.Faults.{IsKept};
 ghost use Rattle.core_reduce.specs.declared.side.SideClass.TheVariants.{OfPure};
 ghost use Rattle.core_check.specs.Questions.{FindsParts, Passes};
 

@@ -13,7 +13,7 @@ use Rattle.cdle_model.proofs.ApartNotJoined.{compare-apart}
 use Rattle.core_reduce.specs.declared.value.Value.{Value}
 use Rattle.core_reduce.specs.declared.reduce.Stop.{Stop}
 use Rattle.core_reduce.specs.declared.reduce.Stop.TheVariants.{Spent, TooDeep, NoMemory}
-use Rattle.core_reduce.proofs.Leads.{Leads, leads_one, leads_on}
+use Rattle.cdle_model.proofs.Leads.{Leads, leads_one, leads_on}
 use Rattle.core_compare.specs.declared.pairs.SidePair.{SidePair}
 use Rattle.core_compare.specs.declared.comparison.Answer as declared
 use Rattle.core_compare.specs.declared.comparison.Answer.TheVariants as a

@@ -5,7 +5,7 @@ use Rattle.cdle_model.specs.Machine.{go, answered, spent, run}
 use Rattle.cdle_model.specs.HeadForms.{Halt, deep, HeadStep, none, to, blocked, head_step, at, fallen, value, no_value, head_move, head_form}
 use Rattle.cdle_model.specs.Comparison.{Pair, split, halted, State, taken, past, move_split, move}
 use Rattle.cdle_model.proofs.Runs.{stops, goes}
-use Rattle.core_reduce.proofs.Leads.{Leads, leads_none, leads_one, leads_on}
+use Rattle.cdle_model.proofs.Leads.{Leads, leads_none, leads_one, leads_on}
 
 module _ (s : List Tree) where
   -- a place of a state at which head reduction goes on

@@ -17,7 +17,7 @@ use Rattle.core_reduce.specs.Sides.{class_trees}
 use Rattle.core_reduce.specs.Values.{value_tree}
 use Rattle.core_reduce.specs.Heads.{IsHeadForm, MeetsHead}
 use Rattle.core_reduce.proofs.Going.{erased_class}
-use Rattle.core_reduce.proofs.Leads.{Leads, leads_on}
+use Rattle.cdle_model.proofs.Leads.{Leads, leads_on}
 use Rattle.core_compare.specs.declared.pairs.SidePair.{SidePair}
 use Rattle.core_compare.specs.Answers.{ArePlaced, AnswersApart}
 use Rattle.core_compare.specs.Pairs.{most, stack, IsForm, AreForms, SettledInto, TurnOn, MeetsTurn}

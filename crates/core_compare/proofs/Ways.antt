@@ -5,7 +5,7 @@ use Rattle.cdle_model.specs.Machine.{Move, stop, go, answered, spent, run}
 use Rattle.cdle_model.specs.Comparison.{Answer, compare}
 use Rattle.cdle_model.proofs.Runs.{stops, goes}
 use Rattle.cdle_model.proofs.LargerBudget.{compare_more}
-use Rattle.core_reduce.proofs.Leads.{Leads}
+use Rattle.cdle_model.proofs.Leads.{Leads}
 
 module _ {A S : Type 0} (move : S → Move A S) where
   stays : (s t : S) → move s ≡ move t → (n : ℕ) → run move n s ≡ run move n t

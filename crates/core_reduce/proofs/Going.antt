@@ -20,7 +20,7 @@ use Rattle.core_reduce.specs.declared.reduce.Stop.TheVariants.{Spent, TooDeep, N
 use Rattle.core_reduce.specs.Sides.{IsPlaced, class_trees, root_class, root_tree, spine}
 use Rattle.core_reduce.specs.Values.{StandsFor}
 use Rattle.core_reduce.specs.Heads.{IsHeadForm, MeetsHead, HeadSo, MeetsStep}
-use Rattle.core_reduce.proofs.Leads.{Leads, leads_one, leads_on, one_head}
+use Rattle.cdle_model.proofs.Leads.{Leads, leads_one, leads_on, one_head}
 
 pub erased_class : (k : SideClass) → IsErased (class_trees k)
 erased_class OfPure = tt

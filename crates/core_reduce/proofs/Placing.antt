@@ -14,7 +14,7 @@ use Rattle.core_reduce.specs.declared.side.SideClass.{SideClass}
 use Rattle.core_reduce.specs.declared.side.SideClass.TheVariants.{OfPure, OfType, OfKind}
 use Rattle.core_reduce.specs.Sides.{IsPlaced, class_trees, arg_function, spine}
 use Rattle.core_reduce.specs.Heads.{innermost, IsStill}
-use Rattle.core_reduce.proofs.Scopes.{fits_below_bound}
+use Rattle.cdle_model.proofs.Scopes.{fits_below_bound}
 use Rattle.core_reduce.proofs.Spines.{ArgFits, spine_head, last_fits}
 
 length_sorts : (ws : List Written) → length (item_sorts ws) ≡ length ws

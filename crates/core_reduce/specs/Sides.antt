@@ -1,11 +1,8 @@
 -- Sides: what they stand for.
-use Rattle.std.specs.Prelude.{◌≡◌, ℕ, ◌<◌, ◌≤◌, List, [], ◌∷◌, Option, Some, None, length}
+use Rattle.std.specs.Prelude.{ℕ, ◌≤◌, List, [], ◌∷◌, Option, Some, None, length}
 use Rattle.cdle_model.specs.declared.grammar.Sort.{Sort}
 use Rattle.cdle_model.specs.Trees.{Function, of_pure, of_term, of_type, Tree, name, apply}
-use Rattle.cdle_model.specs.Depth.{depth}
 use Rattle.cdle_model.specs.Classes.{TreeClass, pure_terms, guides, guide_kinds, within, Fits, IsOf}
-use Rattle.core_tree.specs.declared.faults.Kept.{Kept}
-use Rattle.core_tree.specs.declared.faults.Kept.TheVariants.{Whole, Deep}
 use Rattle.core_reduce.specs.declared.side.SideClass.{SideClass}
 use Rattle.core_reduce.specs.declared.side.SideClass.TheVariants.{OfPure, OfType, OfKind}
 use Rattle.core_reduce.specs.declared.root.Root.{Root}
@@ -67,11 +64,6 @@ ArePure (x ∷ xs) = ⊥
 abbrev pub name_of : Tree → Option ℕ
 name_of (name n) = Some n
 name_of t = None
-
--- the tree is kept whole, or is deeper than 4,096
-abbrev pub IsKept : Tree → Kept Tree → Type 0
-IsKept t (Whole k) = (k ≡ t) × (depth t ≤ 4096)
-IsKept t Deep = 4096 < depth t
 
 -- over at most n variables, and over items of these sorts, the tree is of the class, with each variable and name used in its class
 pub record IsPlaced (n : ℕ) (xs : List Sort) (c : TreeClass) (t : Tree) : Type 0 where

@@ -3,7 +3,8 @@ ghost use Rattle.std.specs.Prelude.{◌≡◌, ◌<◌, ◌∷◌, [], IfOk};
 ghost use Rattle.cdle_model.specs.Depth.{depth};
 ghost use Rattle.cdle_model.specs.Forms.{fn};
 ghost use Rattle.cdle_model.specs.Trees.{apply, var};
-ghost use Rattle.core_reduce.specs.Sides.{IsKept, root_class, root_tree, sided};
+ghost use Rattle.core_reduce.specs.Sides.{root_class, root_tree, sided};
+ghost use Rattle.core_tree.specs.Faults.{IsKept};
 ghost use Rattle.core_reduce.specs.Values.{AreArguments, IsArgument, IsPart, IsValueOf, applied_by, applied_to, classes, former_class, former_parts, former_tree, value_tree};
 ghost use Rattle.core_reduce.specs.declared.side.SideClass.TheVariants.{OfPure, OfType, OfKind};
 

@@ -1,7 +1,8 @@
 //! Sides: erased trees as heads with arguments.
 ghost use Rattle.std.specs.Prelude.{◌≡◌, IfOk};
 ghost use Rattle.cdle_model.specs.Erasure.{HasErasure, erased};
-ghost use Rattle.core_reduce.specs.Sides.{ArePure, IsKept, arg_class, arg_tree, name_of, spine};
+ghost use Rattle.core_reduce.specs.Sides.{ArePure, arg_class, arg_tree, name_of, spine};
+ghost use Rattle.core_tree.specs.Faults.{IsKept};
 ghost use Rattle.core_reduce.specs.declared.side.SideClass.TheVariants.{OfPure, OfType, OfKind};
 
 use crate::root::{Arg, Root};

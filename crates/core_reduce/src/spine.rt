@@ -3,7 +3,8 @@ ghost use Rattle.std.specs.Prelude.{◌≡◌, ◌<◌, ◌≤◌, [], IfOk, IsF
 ghost use Rattle.cdle_model.specs.Trees.{of_pure, apply};
 ghost use Rattle.cdle_model.specs.Depth.{depth};
 ghost use Rattle.cdle_model.specs.Classes.{guide_kinds, guides, pure_terms, IsOf};
-ghost use Rattle.core_reduce.specs.Sides.{IsKept, arg_function, arg_tree, spine};
+ghost use Rattle.core_reduce.specs.Sides.{arg_function, arg_tree, spine};
+ghost use Rattle.core_tree.specs.Faults.{IsKept};
 
 use crate::root::Arg;
 use cdle_model::NoMemory;

@@ -5,7 +5,7 @@ use Rattle.cdle_model.proofs.ClassItems.{items-fit}
 use Rattle.core_reduce.specs.Sides.{class_trees, root_class, root_tree, spine}
 use Rattle.core_reduce.specs.Values.{StandsFor}
 use Rattle.core_reduce.specs.Heads.{MeetsStep}
-use Rattle.core_reduce.proofs.Scopes.{fits_of}
+use Rattle.cdle_model.proofs.Scopes.{fits_of}
 use Rattle.core_reduce.proofs.Steps.{still_none}
 use Rattle.core_reduce.proofs.Going.{going_on, going_form, going_err}
 use Rattle.core_reduce.proofs.reduce.reduce.Goals as goal

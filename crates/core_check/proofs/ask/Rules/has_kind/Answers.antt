@@ -2,7 +2,8 @@ use Rattle.std.proofs.Common.{Some, ap, refl, subst}
 use Rattle.std.proofs.lemmas.Result.{err_from_is_err_and}
 use Rattle.cdle_model.specs.Trees.{Tree}
 use Rattle.cdle_model.specs.Check.{wrong_kind}
-use Rattle.core_reduce.specs.Sides.{IsKept, Sided}
+use Rattle.core_reduce.specs.Sides.{Sided}
+use Rattle.core_tree.specs.Faults.{IsKept}
 use Rattle.core_check.proofs.Asked.{has_same, has_fault, has_not}
 use Rattle.core_check.proofs.Results.{no_memory}
 use Rattle.core_check.proofs.ask.Rules.has_kind.Goals as goal

@@ -2,7 +2,8 @@ use Rattle.std.proofs.Common.{◌∷◌, [], Ok, Err, subst}
 use Rattle.std.proofs.lemmas.Result.{err_from_is_err_and}
 use Rattle.core_reduce.specs.declared.side.SideClass.TheVariants.{OfKind}
 use Rattle.core_reduce.specs.declared.value.Value.{Value}
-use Rattle.core_reduce.specs.Sides.{IsKept, Sided}
+use Rattle.core_reduce.specs.Sides.{Sided}
+use Rattle.core_tree.specs.Faults.{IsKept}
 use Rattle.core_reduce.specs.Values.{value_tree}
 use Rattle.core_check.specs.Formers.{other_form}
 use Rattle.core_check.specs.Questions.{MeetsHeadForm}
