@@ -28,11 +28,6 @@ item_at [] n i l e = absurd (omega arith)
 item_at (j ∷ is) zero i l e = ap (λ k. Some (written k.item)) (sym e)
 item_at (j ∷ is) (suc n) i l e = item_at is n i (omega arith) e
 
-have_body : (is : List CheckedItem) (n : ℕ) (i : CheckedItem) → n < length is → i ≡ get_or is n i → HaveBodies is → IsBody i.item i.body
-have_body [] n i l e h = absurd (omega arith)
-have_body (j ∷ is) zero i l e h = subst (λ k. IsBody k.item k.body) (sym e) h.0
-have_body (j ∷ is) (suc n) i l e h = have_body is n i (omega arith) e h.1
-
 -- ---- one more item
 
 over_more : (es ws : List Written) (w : Written) → AreOver es ws → IsOver (es ++ ws) w → AreOver es (ws ++ w ∷ [])
