@@ -17,13 +17,7 @@ use Rattle.build_drive.specs.declared.outcome.Reason.{Reason}
 use Rattle.build_drive.specs.declared.outcome.Spot.{Spot}
 use Rattle.build_drive.proofs.Calls as calls
 use Rattle.build_drive.proofs.Theorem as theorem
-use Rattle.cdle.specs.Work.{IsAccepted, IsDetermined, IsRefused, IsSpent, IsWanting, IsWork}
-
--- ---- the work, by what the words are
-
-pub wanting : (command : Option Command) (v : Visit) (d : Done) → IsWanting d → IsWork command v d
-wanting None v d h = inl h
-wanting (Some (core files budget)) v d h = inl h
+use Rattle.cdle.specs.Work.{IsAccepted, IsDetermined, IsRefused, IsSpent, IsWork}
 
 -- ---- usage is no outcome of a command
 

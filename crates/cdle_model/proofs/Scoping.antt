@@ -1,10 +1,8 @@
 -- How a caller of a put knows in which class a variable is used.
-use Rattle.std.proofs.Common.{◌≡◌, ℕ, suc, List, ◌∷◌, Some, slice_get, refl}
+use Rattle.std.proofs.Common.{◌≡◌, ℕ, suc, List, ◌∷◌, Some, slice_get}
 use Rattle.cdle_model.specs.declared.grammar.Sort.{Sort}
-use Rattle.cdle_model.specs.declared.grammar.Sort.TheVariants.{OfTerm}
 use Rattle.cdle_model.specs.Trees.{Tree, var, name, leaf, unary, fun, apply, binary, bind}
-use Rattle.cdle_model.specs.Forms.{fn, ap}
-use Rattle.cdle_model.specs.Classes.{TreeClass, pure_terms, within, unary_places, fun_places, apply_places, binary_places, bind_places, Fits, IsOf, UsedAs}
+use Rattle.cdle_model.specs.Classes.{TreeClass, within, unary_places, fun_places, apply_places, binary_places, bind_places, Fits, UsedAs}
 use Rattle.cdle_model.proofs.Placed.{map_sort, map_part, map_body, map_parts, map_domain}
 
 -- in its scope each variable has one sort
@@ -17,11 +15,3 @@ scoped_used vs is x at c (fun f p) g h = map_body (fun_places c f) _ _ (λ v y. 
 scoped_used vs is x at c (apply f p q) g h = map_parts (apply_places c f) _ _ _ _ (λ y. scoped_used vs is x at y p g) (λ y. scoped_used vs is x at y q g) h
 scoped_used vs is x at c (binary j p q) g h = map_parts (binary_places c j) _ _ _ _ (λ y. scoped_used vs is x at y p g) (λ y. scoped_used vs is x at y q g) h
 scoped_used vs is x at c (bind f p q) g h = map_domain (bind_places c f) _ _ _ _ (λ y. scoped_used vs is x at y p g) (λ v y. scoped_used (v ∷ vs) is x (suc at) y q g) h
-
--- in a pure term every variable is a term's
-pub pure_used : (at : ℕ) (t : Tree) → IsOf pure_terms t → UsedAs OfTerm at pure_terms t
-pure_used at (var i) h = λ e. refl
-pure_used at (name n) h = tt
-pure_used at (fn p) h = pure_used (suc at) p h
-pure_used at (ap p q) h = (pure_used at p h.0, pure_used at q h.1)
-pure_used at t h = absurd h
