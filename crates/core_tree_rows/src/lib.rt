@@ -44,7 +44,7 @@ fn functions(alloc: Global, levels: u32, index: u32) -> Result<Pure, NoMemory>
 }
 
 /// How deep functions that deep are with a tree that deep put for their free variable.
-#[tactic(auto, using(cdle_model::proofs::Scoping::pure_used))]
+#[tactic(auto, using(crate::proofs::Scoping::pure_used))]
 fn put_depth(alloc: Global, levels: u32, times: u32) -> Result<u32, PutStop>
     requires levels_fit { levels ≤ 65535 }
     requires times_fit { times ≤ 65535 }
@@ -68,7 +68,7 @@ fn doubled(alloc: Global, part: Pure, levels: u32) -> Result<Pure, NoMemory> {
 }
 
 /// Puts the variable 0 for itself that often, beside a closed tree of more than `2 ^ levels` nodes.
-#[tactic(auto, using(cdle_model::proofs::Scoping::pure_used))]
+#[tactic(auto, using(crate::proofs::Scoping::pure_used))]
 fn put_often(alloc: Global, levels: u32, times: u32) -> Result<u32, PutStop> {
     let part = Pure::var(alloc, 0)?;
     let identity = Pure::function(alloc, &part)?;
@@ -85,7 +85,7 @@ fn put_often(alloc: Global, levels: u32, times: u32) -> Result<u32, PutStop> {
 }
 
 /// Puts a name for the free variable of a tree of more than `2 ^ levels` nodes.
-#[tactic(auto, using(cdle_model::proofs::Scoping::pure_used))]
+#[tactic(auto, using(crate::proofs::Scoping::pure_used))]
 fn put_everywhere(alloc: Global, levels: u32) -> Result<u32, PutStop> {
     let variable = Pure::var(alloc, 0)?;
     let tree = doubled(alloc, variable, levels)?;

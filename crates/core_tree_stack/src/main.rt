@@ -6,9 +6,9 @@
 
 ghost use Rattle.std.specs.Prelude.{◌≡◌, ◌≤◌, IfOk};
 ghost use Rattle.cdle_model.specs.Trees.{IsBelow};
-ghost use Rattle.cdle_model.specs.Classes.{guides, UsedAs};
+ghost use Rattle.cdle_model.specs.Classes.{guides, pure_terms, UsedAs};
 ghost use Rattle.cdle_model.specs.Erasure.{HasErasure};
-ghost use Rattle.cdle_model.specs.declared.grammar.Sort.TheVariants.{OfType};
+ghost use Rattle.cdle_model.specs.declared.grammar.Sort.TheVariants.{OfTerm, OfType};
 
 use core_tree::{Guide, GuideKind, NoMemory, Pure, Term, Ty};
 use std::alloc::Global;
@@ -16,7 +16,8 @@ use std::io;
 
 /// The variable 0 applied that many times.
 fn deep_pure(alloc: Global, levels: u32) -> Result<Pure, NoMemory>
-    ensures { IfOk result (λ t. IsBelow 1 t) }
+    ensures below { IfOk result (λ t. IsBelow 1 t) }
+    ensures used { IfOk result (λ t. UsedAs OfTerm 0 pure_terms t) }
 {
     let name = Pure::name(alloc, 0)?;
     let mut tree = Pure::var(alloc, 0)?;
@@ -85,12 +86,12 @@ fn deep_type(alloc: Global, levels: u32) -> Result<Ty, NoMemory>
     Ok(tree)
 }
 
-#[tactic(auto, using(cdle_model::proofs::Scoping::pure_used))]
-fn put(alloc: Global, tree: &Pure) -> bool {
+fn put(alloc: Global, tree: &Pure) -> bool
+    requires { UsedAs OfTerm 0 pure_terms tree.now }
+{
     let Ok(part) = Pure::var(alloc, 3) else {
         return false;
     };
-    tree.known();
     tree.put_pure(alloc, 0, &part).is_ok()
 }
 
