@@ -1,3 +1,4 @@
+//! Texts, as names of files and items are.
 use std::alloc::{AllocError, Global};
 use std::marker::Model;
 

@@ -63,6 +63,7 @@ impl Rules<'_> {
             Context::Empty => unreachable!(),
             Context::Type(kind, outer) => {
                 if index == 0 {
+                    // Asked for its class and its bound alone.
                     kind.known();
                     let _depth = kind.depth();
                     Ok(kind.shift(self.alloc, 0, passed + 1)?)

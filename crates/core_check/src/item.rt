@@ -50,6 +50,7 @@ impl Rules<'_> {
         ensures kind_erasure { IfOk result (λ _. HasErasure kind.now) }
         ensures body_erasure { IfOk result (λ _. HasErasure body.now) }
     {
+        // Asked for their bounds alone.
         let _depth = kind.depth();
         let _depth = body.depth();
         let wanted = self.kind(1, &Context::Empty, kind)?;

@@ -1,3 +1,4 @@
+//! The faults of a Core text.
 ghost use Rattle.std.specs.Prelude.{◌≡◌};
 ghost use Rattle.core_text.specs.declared.error.CoreTextFault.TheVariants.{NoMemory as Wanted};
 

@@ -1,3 +1,4 @@
+//! Texts with what the reader answers, worked out by hand, and each form cut short behind each of its parts.
 use crate::forms::{ROWS, Row, Want, around, leaf, other, wanted};
 use crate::{counted, read_behind, read_third};
 use core_text::{CoreTextFault, CoreWanted};

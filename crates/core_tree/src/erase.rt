@@ -1,3 +1,4 @@
+//! Erasures of terms, types and kinds.
 ghost use Rattle.std.specs.Prelude.{◌≡◌, ◌≤◌, IfOk};
 ghost use Rattle.cdle_model.specs.Depth.{depth};
 ghost use Rattle.cdle_model.specs.Erasure.{HasErasure, erased};

@@ -1,3 +1,4 @@
+//! What a check of files answers: that it accepted them, or what it found, and where.
 ghost use Rattle.std.specs.Prelude.{◌≡◌};
 ghost use Rattle.core_tree.specs.declared.faults.CoreFault.TheVariants.{NoMemory as Wanted};
 
@@ -38,12 +39,14 @@ impl Model for Path {
 impl Path {
     ghost use Rattle.std.specs.Prelude.{◌≡◌};
 
+    /// The place with these numbers.
     pub fn new(numbers: Vec<u32>) -> Path
         ensures { result ≡ numbers.items }
     {
         Path { numbers }
     }
 
+    /// The numbers of the parts, from the outermost.
     pub fn numbers(&self) -> &[u32]
         ensures { result.now ≡ self.now }
     {

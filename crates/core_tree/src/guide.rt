@@ -1,3 +1,4 @@
+//! Guides and guide kinds, which are also the erased types and kinds: their nodes.
 ghost use Rattle.std.specs.Prelude.{◌≡◌, ◌≤◌, IfOk};
 ghost use Rattle.cdle_model.specs.Depth.{depth, free_bound};
 ghost use Rattle.cdle_model.specs.Classes.{guides, guide_kinds, IsOf};

@@ -1,3 +1,4 @@
+//! The forms of guides and guide kinds, with a constructor for each.
 ghost use Rattle.std.specs.Prelude.{◌≡◌, ◌<◌, IfOk};
 ghost use Rattle.cdle_model.specs.Trees.{var, name};
 ghost use Rattle.cdle_model.specs.Forms.{all, allt, at_, eq, guide_tlam, guide_xtlam, iota, kpi, kpit, on, pi, star};

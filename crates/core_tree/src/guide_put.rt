@@ -1,3 +1,4 @@
+//! Putting a pure term or a guide for a variable of a guide or a guide kind.
 ghost use Rattle.std.specs.Prelude.{◌+◌, ◌<◌, ◌≤◌, ◌^◌};
 ghost use Rattle.cdle_model.specs.Trees.{shift, put, IsBelow};
 ghost use Rattle.cdle_model.specs.Forms.{all, allt, at_, eq, guide_tlam, guide_xtlam, iota, kpi, kpit, on, pi};

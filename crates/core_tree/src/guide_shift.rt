@@ -1,3 +1,4 @@
+//! Raising the free variables of guides and guide kinds.
 ghost use Rattle.std.specs.Prelude.{◌≡◌, ◌+◌, ◌<◌, ◌^◌, IfOk};
 ghost use Rattle.cdle_model.specs.Trees.{shift};
 ghost use Rattle.cdle_model.specs.Depth.{depth, ShiftFits};

@@ -1,3 +1,4 @@
+//! The items of a Core file.
 ghost use Rattle.std.specs.Prelude.{◌≡◌, length, slice_get, MatchOption, None, Some, IfOk};
 ghost use Rattle.cdle_model.specs.Forms.{name_of};
 ghost use Rattle.core_tree.specs.Items.{all_written, written};
@@ -69,6 +70,7 @@ impl Model for CoreItems {
 }
 
 impl CoreItems {
+    /// These items, in this order.
     #[tactic(auto, using(crate::proofs::Written::length_written))]
     pub fn new(items: Vec<CoreItem>) -> CoreItems
         ensures is { result ≡ all_written items.items }
@@ -77,6 +79,7 @@ impl CoreItems {
         CoreItems { items }
     }
 
+    /// How many items there are.
     #[tactic(auto, using(crate::proofs::Written::length_written))]
     pub fn len(&self) -> usize
         ensures { result ≡ length self.now }
@@ -91,6 +94,7 @@ impl CoreItems {
         &self.items
     }
 
+    /// The item of that number, from 0.
     pub fn get(&self, index: usize) -> Option<&CoreItem>
         ensures { MatchOption result (slice_get self.now index ≡ None) (λ item. slice_get self.now index ≡ Some (written item.now)) }
     {

@@ -1,3 +1,4 @@
+//! Pure terms, which are also the erasures of terms: their nodes, with a constructor for each form.
 ghost use Rattle.std.specs.Prelude.{◌≡◌, ◌<◌, ◌≤◌, IfOk};
 ghost use Rattle.cdle_model.specs.Trees.{var, name};
 ghost use Rattle.cdle_model.specs.Forms.{ap, fn};

@@ -1,3 +1,4 @@
+//! Raising and lowering the free variables of pure terms, and putting a pure term for one of them.
 ghost use Rattle.std.specs.Prelude.{◌≡◌, ◌+◌, ◌<◌, ◌≤◌, ◌^◌, true, IfOk};
 ghost use Rattle.cdle_model.specs.Trees.{shift, put, lacks, IsBelow};
 ghost use Rattle.cdle_model.specs.Forms.{ap, fn, star};
@@ -25,6 +26,7 @@ impl Pure {
         if by == 0 {
             return self.share();
         }
+        // Asked for its bound alone.
         let _depth = self.depth();
         refuse_large(self.nodes(), self.free(), from as u64)?;
         self.shift_from(alloc, from as u64, by)
@@ -135,6 +137,7 @@ impl Pure {
         requires { lacks 0 self.now ≡ true }
         ensures { IfOk result (λ t. t ≡ lowered self.now) }
     {
+        // Asked for its bound alone.
         let _depth = self.depth();
         self.lower_from(alloc, 0)
     }

@@ -1,3 +1,4 @@
+//! Why a put gives no tree.
 ghost use Rattle.std.specs.Prelude.{◌≡◌};
 ghost use Rattle.core_tree.specs.Nodes.{HasRoom};
 ghost use Rattle.core_tree.specs.declared.stop.PutStop.TheVariants.{NoMemory as Wanted};

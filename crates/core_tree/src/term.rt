@@ -1,3 +1,4 @@
+//! Terms, types and kinds as a file writes them: their nodes.
 ghost use Rattle.std.specs.Prelude.{◌≡◌, ◌≤◌, IfOk};
 ghost use Rattle.cdle_model.specs.Depth.{depth};
 ghost use Rattle.cdle_model.specs.Classes.{terms, types, kinds, IsOf};

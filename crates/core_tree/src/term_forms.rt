@@ -1,3 +1,4 @@
+//! The forms of terms, with a constructor for each.
 ghost use Rattle.std.specs.Prelude.{◌≡◌, ◌<◌, IfOk};
 ghost use Rattle.cdle_model.specs.Trees.{var, name};
 ghost use Rattle.cdle_model.specs.Forms.{app, beta, delta, eapp, elam, fst, lam, pair, phi, rho, snd, tapp, xlam};
