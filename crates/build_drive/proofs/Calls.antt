@@ -1,6 +1,7 @@
 -- Over a folder that tells its files, and where no read failed, what is there to see is seen, and has one outcome.
 use Rattle.std.proofs.Common.{◌≡◌, ◌∙◌, ◌⊎◌, inl, inr, ◌+◌, ◌≤◌, ◌<◌, ◌++◌, ℕ, List, [], ◌∷◌, Option, Some, None, IfSome, length, refl, sym, ap, subst, arith}
-use Rattle.cdle_folder.specs.Causes.{Quiet, Rose}
+use Rattle.cdle_folder.specs.Causes.{Quiet}
+use Rattle.cdle_folder.proofs.Causes.{no_rise}
 use Rattle.cdle_folder.specs.Files.{Bytes, Files, Reads, IsLonger, with_read}
 use Rattle.cdle_model.specs.CoreText.{Says}
 use Rattle.cdle_model.specs.Forms.{Written}
@@ -16,15 +17,12 @@ use Rattle.build_drive.proofs.Ends.{no_end, one_end, same_items}
 use Rattle.build_drive.proofs.Items.{names-length}
 use Rattle.build_drive.proofs.Verdicts.{one-verdict}
 
-no_rise : {R : Type 0} (before now : ℕ) → Rose before now → Quiet before now → R
-no_rise before now rose quiet = absurd (omega (arith, rose, quiet.0, quiet.1))
-
-there : (v : Visit) (given : Option Reads) (f : Files) (files : List Bytes) (s : Sight) → v.files ≡ Some f → Quiet v.read_faults v.read_faults_after
+there : (v : Visit) (given : Option Reads) (f : Files) (files : List Bytes) (s : Sight) → v.before.files ≡ Some f → Quiet v.before.read_faults v.after.read_faults
     → Saw v given files s → IsThere f files s
 there v given f [] every told quiet h = tt
 there v given f (file ∷ files) (absent name) told quiet h = (h.0, subst (λ (o : Option Files). IfSome o (λ g. g file ≡ None)) told h.3)
 there v given f (file ∷ files) (too_long name) told quiet h = (h.0, subst (λ (o : Option Files). IfSome o (λ g. IsLonger most_bytes (g file))) told h.2)
-there v given f (file ∷ files) (unread name) told quiet h = no_rise v.read_faults v.read_faults_after h.2 quiet
+there v given f (file ∷ files) (unread name) told quiet h = no_rise v.before.read_faults v.after.read_faults h.2 quiet
 there v given f (file ∷ files) (last name bytes) told quiet h = (h.0, h.2, subst (λ (o : Option Files). IfSome o (λ g. g file ≡ Some bytes)) told h.3)
 there v given f (file ∷ files) (contents name bytes rest) told quiet h =
     (h.0, h.1, subst (λ (o : Option Files). IfSome o (λ g. g file ≡ Some bytes)) told h.2, there v (with_read file bytes given) f files rest told quiet h.3)
@@ -95,7 +93,7 @@ one n f es (file ∷ files) (contents a text more) t o p h g x y = absurd g
 one n f es files s t o p h g x y = absurd h
 
 -- the one outcome where nothing fails
-pub exact : (n : ℕ) (v : Visit) (files : List Bytes) (d : Done) (f : Files) (s : Sight) (o : Outcome) → IsCall n v files d → v.files ≡ Some f → Quiet v.read_faults v.read_faults_after
+pub exact : (n : ℕ) (v : Visit) (files : List Bytes) (d : Done) (f : Files) (s : Sight) (o : Outcome) → IsCall n v files d → v.before.files ≡ Some f → Quiet v.before.read_faults v.after.read_faults
     → IsThere f files s → IsOutcome (IsDecided n) [] s o → (d.outcome ≡ o) ⊎ (d.outcome ≡ outcome.NoMemory)
 exact n v files d f s o (inl none) told quiet h x = inr none.0
-exact n v files d f s o (inr w) told quiet h x = inl (one n f [] files s w.0 o d.outcome h (there v v.given f files w.0 told quiet w.1) x w.2)
+exact n v files d f s o (inr w) told quiet h x = inl (one n f [] files s w.0 o d.outcome h (there v v.before.given f files w.0 told quiet w.1) x w.2)

@@ -53,9 +53,9 @@ all-read Verdict v given es files (last name bytes) o c saw h = never (names_of 
 all-read Verdict v given es files s o c saw h = absurd saw
 
 -- the outcome of a call that the check decides, or leaves undecided
-checked : (n : ℕ) (v : Visit) (files : List Bytes) (d : Done) (o : Outcome) → IsOfCheck o → IsCall n v files d → d.outcome ≡ o → (all : List Written) × AreRead v v.given [] files all × IsVerdict n all o
+checked : (n : ℕ) (v : Visit) (files : List Bytes) (d : Done) (o : Outcome) → IsOfCheck o → IsCall n v files d → d.outcome ≡ o → (all : List Written) × AreRead v v.before.given [] files all × IsVerdict n all o
 checked n v files d o c (inl none) e = absurd (subst IsOfCheck (sym e ∙ none.0) c)
-checked n v files d o c (inr w) e = all-read (IsVerdict n) v v.given [] files w.0 o c w.1 (subst (IsOutcome (IsVerdict n) [] w.0) e w.2)
+checked n v files d o c (inr w) e = all-read (IsVerdict n) v v.before.given [] files w.0 o c w.1 (subst (IsOutcome (IsVerdict n) [] w.0) e w.2)
 
 accepted-told : (all : List Written) (v : ListVerdict) (modules items : ℕ) → Tells all v (outcome.Ok modules items) → AreDerived all × (items ≡ length all)
 accepted-told all accepts modules items h = (h.2, h.1)
@@ -100,7 +100,7 @@ seen Verdict f es (file ∷ files) all over h =
     (r.0, contents file bytes r.1, (refl, h.3, h.2, r.2), λ o x. (ws, h.4, h.5, r.3 o x))
 
 -- the files that are there say items that the check accepts with n units
-pub complete : (n : ℕ) (v : Visit) (files : List Bytes) (d : Done) (f : Files) (all : List Written) → IsCall n v files d → v.files ≡ Some f → Quiet v.read_faults v.read_faults_after
+pub complete : (n : ℕ) (v : Visit) (files : List Bytes) (d : Done) (f : Files) (all : List Written) → IsCall n v files d → v.before.files ≡ Some f → Quiet v.before.read_faults v.after.read_faults
     → AreThere f [] files all → check_items n all ≡ accepts → (d.outcome ≡ outcome.Ok 0 (length all)) ⊎ (d.outcome ≡ outcome.NoMemory)
 complete n v files d f all call told quiet h e =
     let r = seen (IsDecided n) f [] files all tt h in

@@ -2,6 +2,7 @@
 use Rattle.std.proofs.Common.{◌≡◌, ◌∙◌, ◌+◌, ◌≤◌, ◌++◌, ℕ, List, [], ◌∷◌, Option, Some, None, IfSome, MatchOption, length, refl, sym, ap, subst, arith}
 use Rattle.cdle_folder.specs.Causes.{Rose}
 use Rattle.cdle_folder.specs.Files.{Bytes, Files, Reads, IsLonger, with_read}
+use Rattle.cdle_folder.specs.States.{FolderState}
 use Rattle.cdle_folder.specs.declared.outside.ReadStop.{ReadStop}
 use Rattle.cdle_folder.specs.declared.outside.ReadStop.TheVariants as reads
 use Rattle.cdle_model.specs.CoreNames.{Name}
@@ -19,31 +20,29 @@ use Rattle.build_drive.proofs.Items.{names-length}
 
 -- one visit is a part of the other, up to its end
 pub record IsTail (u v : Visit) : Type 0 where
-  pub files : u.files ≡ v.files
-  pub given : u.given_after ≡ v.given_after
-  pub read_faults : v.read_faults ≤ u.read_faults
-  pub read_faults_after : u.read_faults_after ≡ v.read_faults_after
-  pub absences : v.absences ≤ u.absences
-  pub absences_after : u.absences_after ≡ v.absences_after
+  pub files : u.before.files ≡ v.before.files
+  pub read_faults : v.before.read_faults ≤ u.before.read_faults
+  pub absences : v.before.absences ≤ u.before.absences
+  pub after : u.after ≡ v.after
 
-rose : (a b c d : ℕ) → b ≤ a → c ≡ d → Rose a c → Rose b d
-rose a b c d le e h = omega (arith, le, e, h)
+rose : (a b c : ℕ) → b ≤ a → Rose a c → Rose b c
+rose a b c le h = omega (arith, le, h)
 
 -- ---- at one file
 
 -- the bytes of a file that was read end the call
-pub ended_in : (v : Visit) (file bytes : Bytes) (known : List Name) (stop : Stop) → v.given_after ≡ with_read file bytes v.given → length bytes ≤ most_bytes → IfSome v.files (λ f. f file ≡ Some bytes)
+pub ended_in : (v : Visit) (file bytes : Bytes) (known : List Name) (stop : Stop) → v.after.given ≡ with_read file bytes v.before.given → length bytes ≤ most_bytes → IfSome v.before.files (λ f. f file ≡ Some bytes)
     → EndsIn file bytes known stop → EndsAt v file known stop
 ended_in v file bytes known stops.NoMemory given short told h = tt
 ended_in v file bytes known (stops.Ended d) given short told h = (last file bytes, (refl, given, short, told), h.0, h.1)
 
 -- what is known of a read that was refused
 pub record IsRefused (v : Visit) (file : Bytes) (stop : ReadStop) : Type 0 where
-  pub given : v.given_after ≡ v.given
-  pub failed : stop ≡ reads.Failed → Rose v.read_faults v.read_faults_after
-  pub absent : stop ≡ reads.Absent → Rose v.absences v.absences_after
-  pub not_there : stop ≡ reads.Absent → IfSome v.files (λ f. f file ≡ None)
-  pub longer : stop ≡ reads.TooLong → IfSome v.files (λ f. IsLonger most_bytes (f file))
+  pub given : v.after.given ≡ v.before.given
+  pub failed : stop ≡ reads.Failed → Rose v.before.read_faults v.after.read_faults
+  pub absent : stop ≡ reads.Absent → Rose v.before.absences v.after.absences
+  pub not_there : stop ≡ reads.Absent → IfSome v.before.files (λ f. f file ≡ None)
+  pub longer : stop ≡ reads.TooLong → IfSome v.before.files (λ f. IsLonger most_bytes (f file))
 
 -- the file was not read
 pub refused_at : (v : Visit) (file : Bytes) (known : List Name) (stop : ReadStop) (d : Done) (o : Outcome) → IsRefused v file stop → d.outcome ≡ o → IsReported [] d
@@ -55,13 +54,21 @@ refused_at v file known reads.NoMemory d o k e report h = absurd h
 
 -- ---- from file to file
 
+same_given : (u v : Visit) → IsTail u v → v.after.given ≡ u.after.given
+same_given u v t = sym (ap (λ (w : FolderState). w.given) t.after)
+
 -- what ended the part ends the whole
-wider : (u v : Visit) (file : Bytes) (more : List Bytes) (s : Sight) (known : List Name) (o : Outcome) → IsTail u v → IsStopped known s o → Saw u u.given (file ∷ []) s → Saw v u.given (file ∷ more) s
-wider u v file more (absent name) known o t x h =
-    (h.0, sym t.given ∙ h.1, rose _ _ _ _ t.absences t.absences_after h.2, subst (λ (o : Option Files). IfSome o (λ f. f file ≡ None)) t.files h.3)
-wider u v file more (too_long name) known o t x h = (h.0, sym t.given ∙ h.1, subst (λ (o : Option Files). IfSome o (λ f. IsLonger most_bytes (f file))) t.files h.2)
-wider u v file more (unread name) known o t x h = (h.0, sym t.given ∙ h.1, rose _ _ _ _ t.read_faults t.read_faults_after h.2)
-wider u v file more (last name bytes) known o t x h = (h.0, sym t.given ∙ h.1, h.2, subst (λ (o : Option Files). IfSome o (λ f. f file ≡ Some bytes)) t.files h.3)
+wider : (u v : Visit) (file : Bytes) (more : List Bytes) (s : Sight) (known : List Name) (o : Outcome) → IsTail u v → IsStopped known s o → Saw u u.before.given (file ∷ []) s → Saw v u.before.given (file ∷ more) s
+wider u v file more (absent name) known o t x h = (
+  h.0,
+  same_given u v t ∙ h.1,
+  rose u.before.absences v.before.absences v.after.absences t.absences (subst (λ (w : FolderState). Rose u.before.absences w.absences) t.after h.2),
+  subst (λ (o : Option Files). IfSome o (λ f. f file ≡ None)) t.files h.3,
+)
+wider u v file more (too_long name) known o t x h = (h.0, same_given u v t ∙ h.1, subst (λ (o : Option Files). IfSome o (λ f. IsLonger most_bytes (f file))) t.files h.2)
+wider u v file more (unread name) known o t x h =
+    (h.0, same_given u v t ∙ h.1, rose u.before.read_faults v.before.read_faults v.after.read_faults t.read_faults (subst (λ (w : FolderState). Rose u.before.read_faults w.read_faults) t.after h.2))
+wider u v file more (last name bytes) known o t x h = (h.0, same_given u v t ∙ h.1, h.2, subst (λ (o : Option Files). IfSome o (λ f. f file ≡ Some bytes)) t.files h.3)
 wider u v file more s known o t x h = absurd x
 
 stopped : (Verdict : List Written → Outcome → Type 0) (es : List Written) (s : Sight) (o : Outcome) → IsStopped (names_of es) s o → IsOutcome Verdict es s o
@@ -74,7 +81,7 @@ stopped Verdict es (last file bytes) o h = h
 
 -- the call ends at the file that came next
 pub ends_early : (Verdict : List Written → Outcome → Type 0) (u v : Visit) (files : List Bytes) (es : List Written) (known : List Name) (file : Bytes) (more : List Bytes) (stop : Stop)
-    → IsTail u v → known ≡ names_of es → HasCome Verdict v files u.given es (file ∷ more) → EndsAt u file known stop → EndsEarly Verdict v files stop
+    → IsTail u v → known ≡ names_of es → HasCome Verdict v files u.before.given es (file ∷ more) → EndsAt u file known stop → EndsEarly Verdict v files stop
 ends_early Verdict u v files es known file more stops.NoMemory t e come h = tt
 ends_early Verdict u v files es known file more (stops.Ended d) t e come h =
     let x : IsStopped (names_of es) h.0 d.outcome = subst (λ (k : List Name). IsStopped k h.0 d.outcome) e h.2 in
@@ -83,7 +90,7 @@ ends_early Verdict u v files es known file more (stops.Ended d) t e come h =
 
 -- one more file was read
 pub has_come : (Verdict : List Written → Outcome → Type 0) (v : Visit) (files : List Bytes) (es ws : List Written) (known : List Name) (file : Bytes) (more : List Bytes)
-    (told : Option Files) (given after : Option Reads) → told ≡ v.files → known ≡ names_of es → HasCome Verdict v files given es (file ∷ more)
+    (told : Option Files) (given after : Option Reads) → told ≡ v.before.files → known ≡ names_of es → HasCome Verdict v files given es (file ∷ more)
     → (bytes : Bytes) × (after ≡ with_read file bytes given) × (length bytes ≤ most_bytes) × IfSome told (λ f. f file ≡ Some bytes) × Says bytes known ws × (length known + length ws ≤ most_items)
     → HasCome Verdict v files after (es ++ ws) more
 has_come Verdict v files es ws known file more told given after same e come h =
@@ -93,7 +100,7 @@ has_come Verdict v files es ws known file more told given after same e come h =
     (ws, subst (λ (k : List Name). Says h.0 k ws) e h.4, few, x)
 
 -- all files were read, and the check has this outcome
-pub is_work : (Verdict : List Written → Outcome → Type 0) (v : Visit) (files : List Bytes) (es : List Written) (d : Done) → HasCome Verdict v files v.given_after es [] → Verdict es d.outcome → IsReported [] d → IsWork Verdict v files d
+pub is_work : (Verdict : List Written → Outcome → Type 0) (v : Visit) (files : List Bytes) (es : List Written) (d : Done) → HasCome Verdict v files v.after.given es [] → Verdict es d.outcome → IsReported [] d → IsWork Verdict v files d
 is_work Verdict v files es d come x report = let all = come every d.outcome refl x in (all.0, all.1, all.2, subst (λ (text : Bytes). IsReported text d) (sym all.3) report)
 
 -- the work ended before the check

@@ -20,7 +20,7 @@ IsReported text d = d.report.items ≡ report_of text d.outcome
 
 -- this was seen of the files, and the outcome and the report are of it
 abbrev pub IsWork : (List Written → Outcome → Type 0) → Visit → List Bytes → Done → Type 0
-IsWork Verdict v files d = (s : Sight) × Saw v v.given files s × IsOutcome Verdict [] s d.outcome × IsReported (text_seen s) d
+IsWork Verdict v files d = (s : Sight) × Saw v v.before.given files s × IsOutcome Verdict [] s d.outcome × IsReported (text_seen s) d
 
 -- The end of a call on these files, with n units for each comparison and each head form. Memory may run out anywhere; then there is no report.
 abbrev pub IsCall : ℕ → Visit → List Bytes → Done → Type 0
@@ -28,22 +28,22 @@ IsCall n v files d = (d.outcome ≡ outcome.NoMemory) × (d.report.items ≡ [])
 
 -- These files, read in this call when its reads had given that much, are read to their ends, and say in their order all the items behind es.
 abbrev pub AreRead : Visit → Option Reads → List Written → List Bytes → List Written → Type 0
-AreRead v given es [] all = (v.given_after ≡ given) × (all ≡ es)
-AreRead v given es (file ∷ files) all = (bytes : Bytes) × (ws : List Written) × IfSome v.files (λ f. f file ≡ Some bytes) × Says bytes (names_of es) ws
+AreRead v given es [] all = (v.after.given ≡ given) × (all ≡ es)
+AreRead v given es (file ∷ files) all = (bytes : Bytes) × (ws : List Written) × IfSome v.before.files (λ f. f file ≡ Some bytes) × Says bytes (names_of es) ws
     × AreRead v (with_read file bytes given) (es ++ ws) files all
 
 -- accepted: every file was read to its end, and the list of all items, so many, has a derivation
 abbrev pub AreAccepted : Visit → List Bytes → ℕ → Type 0
-AreAccepted v files items = (all : List Written) × AreRead v v.given [] files all × AreDerived all × (items ≡ length all)
+AreAccepted v files items = (all : List Written) × AreRead v v.before.given [] files all × AreDerived all × (items ≡ length all)
 
 -- refused there: every file was read to its end, and the items up to the one that is named have no derivation
 abbrev pub AreRefused : Visit → List Bytes → Spot → Type 0
-AreRefused v files place = (all : List Written) × AreRead v v.given [] files all × (i : ℕ) × (path : List ℕ) × IsSpot all i path place × HaveNone all i
+AreRefused v files place = (all : List Written) × AreRead v v.before.given [] files all × (i : ℕ) × (path : List ℕ) × IsSpot all i path place × HaveNone all i
 
 -- undecided there with n units: every file was read to its end; the comparison or head form there is spent with n units, and all before it pass
 -- with some number of them; and the plain check of all items with n units is spent, there or earlier
 abbrev pub AreUndecided : ℕ → Visit → List Bytes → Spot → Type 0
-AreUndecided n v files place = (all : List Written) × AreRead v v.given [] files all × (i : ℕ) × (path : List ℕ) × IsSpot all i path place
+AreUndecided n v files place = (all : List Written) × AreRead v v.before.given [] files all × (i : ℕ) × (path : List ℕ) × IsSpot all i path place
     × (k : ℕ) × IsUndecided n (n + k) all i path × (j : ℕ) × (earlier : List ℕ) × (check_items n all ≡ spends j earlier)
 
 -- these files are in the folder, within the limits, and say in their order all the items behind es

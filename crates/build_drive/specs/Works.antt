@@ -22,13 +22,13 @@ sight_of_stop file stop.NoMemory = None
 
 -- a file was read, which said these items behind those of these names
 abbrev pub IsRead : Visit → Bytes → List Name → List Written → Type 0
-IsRead v file known ws = (bytes : Bytes) × (v.given_after ≡ with_read file bytes v.given) × (length bytes ≤ most_bytes) × IfSome v.files (λ f. f file ≡ Some bytes)
+IsRead v file known ws = (bytes : Bytes) × (v.after.given ≡ with_read file bytes v.before.given) × (length bytes ≤ most_bytes) × IfSome v.before.files (λ f. f file ≡ Some bytes)
     × Says bytes known ws × (length known + length ws ≤ most_items)
 
 -- the call ends with this at the file that came next, unless memory ran out
 abbrev pub EndsAt : Visit → Bytes → List Name → Stop → Type 0
 EndsAt v file known stops.NoMemory = Unit {0}
-EndsAt v file known (stops.Ended d) = (s : Sight) × Saw v v.given (file ∷ []) s × IsStopped known s d.outcome × IsReported (text_seen s) d
+EndsAt v file known (stops.Ended d) = (s : Sight) × Saw v v.before.given (file ∷ []) s × IsStopped known s d.outcome × IsReported (text_seen s) d
 
 -- the call ends with this at these bytes of the file, unless memory ran out
 abbrev pub EndsIn : Bytes → Bytes → List Name → Stop → Type 0
@@ -44,4 +44,4 @@ EndsEarly Verdict v files (stops.Ended d) = IsWork Verdict v files d
 -- what is seen of all files, with that outcome and of the same text.
 abbrev pub HasCome : (List Written → Outcome → Type 0) → Visit → List Bytes → Option Reads → List Written → List Bytes → Type 0
 HasCome Verdict v files given es left = (s : Sight) (o : Outcome) → Saw v given left s → IsOutcome Verdict es s o
-    → (t : Sight) × Saw v v.given files t × IsOutcome Verdict [] t o × (text_seen t ≡ text_seen s)
+    → (t : Sight) × Saw v v.before.given files t × IsOutcome Verdict [] t o × (text_seen t ≡ text_seen s)

@@ -29,60 +29,28 @@ pub fn core_command<F: Folder>(
     folder: &mut F,
 ) -> Done
     // The end of the call with its cause: what was seen of the files, and what they say.
-    ensures call { IsCall budget (record {
-      files = F.files folder.old;
-      given = F.given folder.old;
-      given_after = F.given folder.new;
-      read_faults = F.read_faults folder.old;
-      read_faults_after = F.read_faults folder.new;
-      absences = F.absences folder.old;
-      absences_after = F.absences folder.new;
-    }) (map string_bytes files.now.items) result }
+    ensures call { IsCall budget (record { before = F.state folder.old; after = F.state folder.new }) (map string_bytes files.now.items) result }
 
     // Accepted: each file in its order is read to its end, and the list of all items has a derivation.
-    ensures accepted { (modules items : ℕ) → result.outcome ≡ Accepted modules items → AreAccepted (record {
-      files = F.files folder.old;
-      given = F.given folder.old;
-      given_after = F.given folder.new;
-      read_faults = F.read_faults folder.old;
-      read_faults_after = F.read_faults folder.new;
-      absences = F.absences folder.old;
-      absences_after = F.absences folder.new;
-    }) (map string_bytes files.now.items) items }
+    ensures accepted { (modules items : ℕ) → result.outcome ≡ Accepted modules items → AreAccepted (record { before = F.state folder.old; after = F.state folder.new }) (map string_bytes files.now.items) items }
 
     // Refused: likewise each file is read, and the items up to the one that is named have no derivation.
-    ensures refused { (place : SpotOf) (why : ReasonOf) → result.outcome ≡ Rejected place why → AreRefused (record {
-      files = F.files folder.old;
-      given = F.given folder.old;
-      given_after = F.given folder.new;
-      read_faults = F.read_faults folder.old;
-      read_faults_after = F.read_faults folder.new;
-      absences = F.absences folder.old;
-      absences_after = F.absences folder.new;
-    }) (map string_bytes files.now.items) place }
+    ensures refused { (place : SpotOf) (why : ReasonOf) → result.outcome ≡ Rejected place why → AreRefused (record { before = F.state folder.old; after = F.state folder.new }) (map string_bytes files.now.items) place }
 
     // Undecided: likewise each file is read; the question at that place is spent with this budget, and so is the plain check of all items, there
     // or earlier.
-    ensures undecided { (place : SpotOf) (units : ℕ) → result.outcome ≡ Unsettled place units → (units ≡ budget) × AreUndecided budget (record {
-      files = F.files folder.old;
-      given = F.given folder.old;
-      given_after = F.given folder.new;
-      read_faults = F.read_faults folder.old;
-      read_faults_after = F.read_faults folder.new;
-      absences = F.absences folder.old;
-      absences_after = F.absences folder.new;
-    }) (map string_bytes files.now.items) place }
+    ensures undecided { (place : SpotOf) (units : ℕ) → result.outcome ≡ Unsettled place units → (units ≡ budget) × AreUndecided budget (record { before = F.state folder.old; after = F.state folder.new }) (map string_bytes files.now.items) place }
 
     // No file is written.
-    ensures files { F.files folder.new ≡ F.files folder.old }
+    ensures files { (F.state folder.new).files ≡ (F.state folder.old).files }
 
     // Where the folder tells its files, and none of its faults is counted, then what is there to see is seen; and where the plain check with
     // this budget is not spent, there is one outcome, in whose place only want of memory may be answered.
-    ensures exact { (f : Files) (s : Sight) (o : OutcomeOf) → F.files folder.old ≡ Some f → Quiet (F.read_faults folder.old) (F.read_faults folder.new)
+    ensures exact { (f : Files) (s : Sight) (o : OutcomeOf) → (F.state folder.old).files ≡ Some f → Quiet (F.state folder.old).read_faults (F.state folder.new).read_faults
         → IsThere f (map string_bytes files.now.items) s → IsOutcome (IsDecided budget) [] s o → (result.outcome ≡ o) ⊎ (result.outcome ≡ Wanted) }
 
     // So it accepts wherever the files are there, within the limits, and the plain check with this budget accepts their items.
-    ensures complete { (f : Files) (all : List Written) → F.files folder.old ≡ Some f → Quiet (F.read_faults folder.old) (F.read_faults folder.new)
+    ensures complete { (f : Files) (all : List Written) → (F.state folder.old).files ≡ Some f → Quiet (F.state folder.old).read_faults (F.state folder.new).read_faults
         → AreThere f [] (map string_bytes files.now.items) all → check_items budget all ≡ accepts
         → (result.outcome ≡ Accepted 0 (length all)) ⊎ (result.outcome ≡ Wanted) }
 {
@@ -100,25 +68,9 @@ fn work<F: Folder>(
     budget: u64,
     folder: &mut F,
 ) -> Result<Done, Stop>
-    ensures files { F.files folder.new ≡ F.files folder.old }
-    ensures done { IfOk result (IsWork (IsVerdict budget) (record {
-      files = F.files folder.old;
-      given = F.given folder.old;
-      given_after = F.given folder.new;
-      read_faults = F.read_faults folder.old;
-      read_faults_after = F.read_faults folder.new;
-      absences = F.absences folder.old;
-      absences_after = F.absences folder.new;
-    }) (map string_bytes files.now.items)) }
-    ensures ended { IfErr result (EndsEarly (IsVerdict budget) (record {
-      files = F.files folder.old;
-      given = F.given folder.old;
-      given_after = F.given folder.new;
-      read_faults = F.read_faults folder.old;
-      read_faults_after = F.read_faults folder.new;
-      absences = F.absences folder.old;
-      absences_after = F.absences folder.new;
-    }) (map string_bytes files.now.items)) }
+    ensures files { (F.state folder.new).files ≡ (F.state folder.old).files }
+    ensures done { IfOk result (IsWork (IsVerdict budget) (record { before = F.state folder.old; after = F.state folder.new }) (map string_bytes files.now.items)) }
+    ensures ended { IfErr result (EndsEarly (IsVerdict budget) (record { before = F.state folder.old; after = F.state folder.new }) (map string_bytes files.now.items)) }
 {
     let read = read_files(alloc, files, folder)?;
     Ok(checked(alloc, &read, budget)?)

@@ -33,27 +33,11 @@ pub(crate) fn read_files<F: Folder>(
     files: &Vec<String>,
     folder: &mut F,
 ) -> Result<Vec<CoreFile>, Stop>
-    ensures files { F.files folder.new ≡ F.files folder.old }
+    ensures files { (F.state folder.new).files ≡ (F.state folder.old).files }
     ensures items { IfOk result (λ read. AreItems (items_of read.items)) }
     ensures few { IfOk result (λ read. length (items_of read.items) ≤ most_items) }
-    ensures read { IfOk result (λ read. (n : ℕ) → HasCome (IsVerdict n) (record {
-      files = F.files folder.old;
-      given = F.given folder.old;
-      given_after = F.given folder.new;
-      read_faults = F.read_faults folder.old;
-      read_faults_after = F.read_faults folder.new;
-      absences = F.absences folder.old;
-      absences_after = F.absences folder.new;
-    }) (map string_bytes files.now.items) (F.given folder.new) (items_of read.items) []) }
-    ensures ended { IfErr result (λ stop. (n : ℕ) → EndsEarly (IsVerdict n) (record {
-      files = F.files folder.old;
-      given = F.given folder.old;
-      given_after = F.given folder.new;
-      read_faults = F.read_faults folder.old;
-      read_faults_after = F.read_faults folder.new;
-      absences = F.absences folder.old;
-      absences_after = F.absences folder.new;
-    }) (map string_bytes files.now.items) stop) }
+    ensures read { IfOk result (λ read. (n : ℕ) → HasCome (IsVerdict n) (record { before = F.state folder.old; after = F.state folder.new }) (map string_bytes files.now.items) (F.state folder.new).given (items_of read.items) []) }
+    ensures ended { IfErr result (λ stop. (n : ℕ) → EndsEarly (IsVerdict n) (record { before = F.state folder.old; after = F.state folder.new }) (map string_bytes files.now.items) stop) }
 {
     let mut known = CoreScope::new(alloc);
     let mut items = 0;
@@ -77,27 +61,11 @@ fn read_file<F: Folder>(
 ) -> Result<CoreFile, Stop>
     requires counted { items ≡ length (known_names known.now) }
     requires few { items ≤ most_items }
-    ensures files { F.files folder.new ≡ F.files folder.old }
-    ensures read_faults { F.read_faults folder.old ≤ F.read_faults folder.new }
-    ensures absences { F.absences folder.old ≤ F.absences folder.new }
-    ensures read { IfOk result (λ read. IsRead (record {
-      files = F.files folder.old;
-      given = F.given folder.old;
-      given_after = F.given folder.new;
-      read_faults = F.read_faults folder.old;
-      read_faults_after = F.read_faults folder.new;
-      absences = F.absences folder.old;
-      absences_after = F.absences folder.new;
-    }) file.now (known_names known.now) read.items) }
-    ensures ended { IfErr result (EndsAt (record {
-      files = F.files folder.old;
-      given = F.given folder.old;
-      given_after = F.given folder.new;
-      read_faults = F.read_faults folder.old;
-      read_faults_after = F.read_faults folder.new;
-      absences = F.absences folder.old;
-      absences_after = F.absences folder.new;
-    }) file.now (known_names known.now)) }
+    ensures files { (F.state folder.new).files ≡ (F.state folder.old).files }
+    ensures read_faults { (F.state folder.old).read_faults ≤ (F.state folder.new).read_faults }
+    ensures absences { (F.state folder.old).absences ≤ (F.state folder.new).absences }
+    ensures read { IfOk result (λ read. IsRead (record { before = F.state folder.old; after = F.state folder.new }) file.now (known_names known.now) read.items) }
+    ensures ended { IfErr result (EndsAt (record { before = F.state folder.old; after = F.state folder.new }) file.now (known_names known.now)) }
 {
     match folder.read(alloc, file, MOST_BYTES) {
         Ok(text) => items_of_text(alloc, file, &text, known, items),

@@ -1,6 +1,7 @@
 -- What the end of a call says, by the work.
-use Rattle.std.proofs.Common.{◌≡◌, ◌∙◌, ◌⊎◌, inl, inr, ℕ, List, [], Option, Some, None, length, sym, subst, arith}
-use Rattle.cdle_folder.specs.Causes.{Quiet, Rose}
+use Rattle.std.proofs.Common.{◌≡◌, ◌∙◌, ◌⊎◌, inl, inr, ℕ, List, [], Option, Some, None, length, sym, subst}
+use Rattle.cdle_folder.specs.Causes.{Quiet}
+use Rattle.cdle_folder.proofs.Causes.{no_rise}
 use Rattle.cdle_folder.specs.Files.{Bytes, Files}
 use Rattle.cdle_model.specs.Check.{accepts, check_items}
 use Rattle.cdle_model.specs.Forms.{Written}
@@ -38,24 +39,21 @@ undecided_end c v out end place units r e = undecided_work c v r.done place unit
 
 -- ---- where nothing fails
 
-no_rise : {R : Type 0} (before now : ℕ) → Rose before now → Quiet before now → R
-no_rise before now rose quiet = absurd (omega (arith, rose, quiet.0, quiet.1))
-
-put_end : (out : Output) (report : Bytes) (work end : Outcome) → Quiet out.faults out.faults_after → Ends out report work end → end ≡ work
+put_end : (out : Output) (report : Bytes) (work end : Outcome) → Quiet out.before.faults out.after.faults → Ends out report work end → end ≡ work
 put_end out report work end silent (inl e) = e.0
-put_end out report work end silent (inr e) = no_rise out.faults out.faults_after e.1 silent
+put_end out report work end silent (inr e) = no_rise out.before.faults out.after.faults e.1 silent
 
 -- the end is the work's outcome, which is that one, or want of memory
 same_end : (end work o : Outcome) → end ≡ work → (work ≡ o) ⊎ (work ≡ outcome.NoMemory) → (end ≡ o) ⊎ (end ≡ outcome.NoMemory)
 same_end end work o e (inl k) = inl (e ∙ k)
 same_end end work o e (inr k) = inr (e ∙ k)
 
-pub exact_end : (c : Option Command) (v : Visit) (out : Output) (end : Outcome) (f : Files) (o : Outcome) → IsRun c v out end → v.files ≡ Some f → Quiet v.read_faults v.read_faults_after
-    → Quiet out.faults out.faults_after → IsDetermined c f o → (end ≡ o) ⊎ (end ≡ outcome.NoMemory)
+pub exact_end : (c : Option Command) (v : Visit) (out : Output) (end : Outcome) (f : Files) (o : Outcome) → IsRun c v out end → v.before.files ≡ Some f → Quiet v.before.read_faults v.after.read_faults
+    → Quiet out.before.faults out.after.faults → IsDetermined c f o → (end ≡ o) ⊎ (end ≡ outcome.NoMemory)
 exact_end c v out end f o r files quiet silent x = same_end end r.done.outcome o (put_end out _ r.done.outcome end silent r.ends) (exact_work c v r.done f o r.work files quiet x)
 
-pub complete_end : (c : Option Command) (v : Visit) (out : Output) (end : Outcome) (f : Files) (files : List Bytes) (n : ℕ) (all : List Written) → IsRun c v out end → v.files ≡ Some f
-    → Quiet v.read_faults v.read_faults_after → Quiet out.faults out.faults_after → c ≡ Some (core files n) → AreThere f [] files all → check_items n all ≡ accepts
+pub complete_end : (c : Option Command) (v : Visit) (out : Output) (end : Outcome) (f : Files) (files : List Bytes) (n : ℕ) (all : List Written) → IsRun c v out end → v.before.files ≡ Some f
+    → Quiet v.before.read_faults v.after.read_faults → Quiet out.before.faults out.after.faults → c ≡ Some (core files n) → AreThere f [] files all → check_items n all ≡ accepts
     → (end ≡ outcome.Ok 0 (length all)) ⊎ (end ≡ outcome.NoMemory)
 complete_end c v out end f files n all r folder quiet silent e there ok =
     same_end end r.done.outcome (outcome.Ok 0 (length all)) (put_end out _ r.done.outcome end silent r.ends) (complete_work c v r.done f files n all r.work folder quiet e there ok)

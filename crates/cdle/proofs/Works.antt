@@ -58,13 +58,13 @@ undecided_work None v d place units (inl none) e = absurd (let x = none.0 in cc)
 undecided_work None v d place units (inr u) e = absurd (let x = u.0 in cc)
 undecided_work (Some (core files n)) v d place units h e = theorem.undecided n v files d place units h e
 
-pub exact_work : (command : Option Command) (v : Visit) (d : Done) (f : Files) (o : Outcome) → IsWork command v d → v.files ≡ Some f → Quiet v.read_faults v.read_faults_after
+pub exact_work : (command : Option Command) (v : Visit) (d : Done) (f : Files) (o : Outcome) → IsWork command v d → v.before.files ≡ Some f → Quiet v.before.read_faults v.after.read_faults
     → IsDetermined command f o → (d.outcome ≡ o) ⊎ (d.outcome ≡ outcome.NoMemory)
 exact_work None v d f o (inl none) told quiet x = inr none.0
 exact_work None v d f o (inr u) told quiet x = inl (u.0 ∙ sym x)
 exact_work (Some (core files n)) v d f o h told quiet x = calls.exact n v files d f x.0 o h told quiet x.1 x.2
 
-pub complete_work : (command : Option Command) (v : Visit) (d : Done) (f : Files) (files : List Bytes) (n : ℕ) (all : List Written) → IsWork command v d → v.files ≡ Some f
-    → Quiet v.read_faults v.read_faults_after → command ≡ Some (core files n) → AreThere f [] files all → check_items n all ≡ accepts
+pub complete_work : (command : Option Command) (v : Visit) (d : Done) (f : Files) (files : List Bytes) (n : ℕ) (all : List Written) → IsWork command v d → v.before.files ≡ Some f
+    → Quiet v.before.read_faults v.after.read_faults → command ≡ Some (core files n) → AreThere f [] files all → check_items n all ≡ accepts
     → (d.outcome ≡ outcome.Ok 0 (length all)) ⊎ (d.outcome ≡ outcome.NoMemory)
 complete_work command v d f files n all h told quiet e there ok = theorem.complete n v files d f all (subst (λ (c : Option Command). IsWork c v d) e h) told quiet there ok

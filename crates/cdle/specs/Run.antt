@@ -2,6 +2,7 @@
 use Rattle.std.specs.Prelude.{◌≡◌, ◌⊎◌, ℕ, Option, None}
 use Rattle.cdle_folder.specs.Causes.{Rose}
 use Rattle.cdle_folder.specs.Files.{Bytes, PutsPrefix, with_bytes}
+use Rattle.cdle_folder.specs.States.{SinkState}
 use Rattle.cdle_model.specs.Report.{out_of_memory_line}
 use Rattle.cdle_words.specs.Words.{Command}
 use Rattle.build_drive.specs.Sights.{Visit}
@@ -10,12 +11,10 @@ use Rattle.build_drive.specs.declared.outcome.Outcome.{Outcome}
 use Rattle.build_drive.specs.declared.outcome.Outcome.TheVariants as outcome
 use Rattle.cdle.specs.Work.{IsWork}
 
--- what the sink has before the call and after it
+-- the sink before the call and after it
 pub record Output : Type 0 where
-  pub written : Option Bytes
-  pub written_after : Option Bytes
-  pub faults : ℕ
-  pub faults_after : ℕ
+  pub before : SinkState
+  pub after : SinkState
 
 -- the bytes that are put for an outcome with this report: that memory ran out is said without one
 abbrev pub told : Outcome → Bytes → Bytes
@@ -25,8 +24,8 @@ told o report = report
 -- The work had this outcome, and the call ends so: its report was put, and the outcome stands; or putting it failed in this call, and a
 -- beginning of it went out.
 abbrev pub Ends : Output → Bytes → Outcome → Outcome → Type 0
-Ends out report work end = (end ≡ work) × (out.written_after ≡ with_bytes report out.written)
-    ⊎ (end ≡ outcome.WriteFault None) × Rose out.faults out.faults_after × PutsPrefix report out.written out.written_after
+Ends out report work end = (end ≡ work) × (out.after.written ≡ with_bytes report out.before.written)
+    ⊎ (end ≡ outcome.WriteFault None) × Rose out.before.faults out.after.faults × PutsPrefix report out.before.written out.after.written
 
 -- the whole of a call, by its end
 pub record IsRun (command : Option Command) (v : Visit) (out : Output) (end : Outcome) : Type 0 where

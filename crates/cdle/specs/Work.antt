@@ -17,7 +17,7 @@ IsWanting d = (d.outcome ≡ outcome.NoMemory) × (d.report.items ≡ [])
 
 -- where the words are no command, this is reported, and nothing is read
 abbrev pub IsUsage : Visit → Done → Type 0
-IsUsage v d = (d.outcome ≡ outcome.Usage) × IsReported [] d × (v.given_after ≡ v.given)
+IsUsage v d = (d.outcome ≡ outcome.Usage) × IsReported [] d × (v.after.given ≡ v.before.given)
 
 -- the outcome of a call on this folder, by what the words ask for, and its report
 abbrev pub IsWork : Option Command → Visit → Done → Type 0

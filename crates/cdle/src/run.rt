@@ -37,69 +37,37 @@ pub fn cdle_run<F: Folder, S: Sink>(
 
     // The end of the call with its cause: what the words ask for, what was seen of the files and what they say, and what became of the report.
     ensures run { IsRun (command_of (map string_bytes words.now.items))
-        (record {
-          files = F.files folder.old;
-          given = F.given folder.old;
-          given_after = F.given folder.new;
-          read_faults = F.read_faults folder.old;
-          read_faults_after = F.read_faults folder.new;
-          absences = F.absences folder.old;
-          absences_after = F.absences folder.new;
-        })
-        (record { written = S.written out.old; written_after = S.written out.new; faults = S.faults out.old; faults_after = S.faults out.new }) result.outcome }
+        (record { before = F.state folder.old; after = F.state folder.new })
+        (record { before = S.state out.old; after = S.state out.new }) result.outcome }
 
     // Usage is answered only where the words are no command; that it is answered where they are none is said under `run` and `exact`.
     ensures usage { result.outcome ≡ NoCommand → command_of (map string_bytes words.now.items) ≡ None }
 
     // Accepted: each file of the words is read to its end, in their order, and the list of all items has a derivation.
     ensures accepted { (modules items : ℕ) → result.outcome ≡ Accepted modules items → IsAccepted (command_of (map string_bytes words.now.items))
-        (record {
-          files = F.files folder.old;
-          given = F.given folder.old;
-          given_after = F.given folder.new;
-          read_faults = F.read_faults folder.old;
-          read_faults_after = F.read_faults folder.new;
-          absences = F.absences folder.old;
-          absences_after = F.absences folder.new;
-        }) items }
+        (record { before = F.state folder.old; after = F.state folder.new }) items }
 
     // Refused: likewise each file is read, and the items up to the one that is named have no derivation.
     ensures refused { (place : SpotOf) (why : ReasonOf) → result.outcome ≡ Rejected place why → IsRefused (command_of (map string_bytes words.now.items))
-        (record {
-          files = F.files folder.old;
-          given = F.given folder.old;
-          given_after = F.given folder.new;
-          read_faults = F.read_faults folder.old;
-          read_faults_after = F.read_faults folder.new;
-          absences = F.absences folder.old;
-          absences_after = F.absences folder.new;
-        }) place }
+        (record { before = F.state folder.old; after = F.state folder.new }) place }
 
     // Undecided: likewise each file is read; the question at that place is spent with the words' budget, and so is the plain check of all items,
     // there or earlier.
     ensures undecided { (place : SpotOf) (units : ℕ) → result.outcome ≡ Unsettled place units → IsSpent (command_of (map string_bytes words.now.items))
-        (record {
-          files = F.files folder.old;
-          given = F.given folder.old;
-          given_after = F.given folder.new;
-          read_faults = F.read_faults folder.old;
-          read_faults_after = F.read_faults folder.new;
-          absences = F.absences folder.old;
-          absences_after = F.absences folder.new;
-        }) place units }
+        (record { before = F.state folder.old; after = F.state folder.new }) place units }
 
     // No file is written.
-    ensures files { F.files folder.new ≡ F.files folder.old }
+    ensures files { (F.state folder.new).files ≡ (F.state folder.old).files }
 
     // Where the folder tells its files, and no fault of folder or sink is counted, there is one outcome, which the words and the files determine
     // where the plain check with the words' budget is not spent; only want of memory may be answered in its place.
-    ensures exact { (f : Files) (o : OutcomeOf) → F.files folder.old ≡ Some f → Quiet (F.read_faults folder.old) (F.read_faults folder.new)
-        → Quiet (S.faults out.old) (S.faults out.new) → IsDetermined (command_of (map string_bytes words.now.items)) f o
+    ensures exact { (f : Files) (o : OutcomeOf) → (F.state folder.old).files ≡ Some f → Quiet (F.state folder.old).read_faults (F.state folder.new).read_faults
+        → Quiet (S.state out.old).faults (S.state out.new).faults → IsDetermined (command_of (map string_bytes words.now.items)) f o
         → (result.outcome ≡ o) ⊎ (result.outcome ≡ Wanted) }
 
     // So it accepts wherever the files of the words are there, within the limits, and the plain check with the words' budget accepts their items.
-    ensures complete { (f : Files) (files : List Bytes) (budget : ℕ) (all : List Written) → F.files folder.old ≡ Some f
-        → Quiet (F.read_faults folder.old) (F.read_faults folder.new) → Quiet (S.faults out.old) (S.faults out.new)
+    ensures complete { (f : Files) (files : List Bytes) (budget : ℕ) (all : List Written) → (F.state folder.old).files ≡ Some f
+        → Quiet (F.state folder.old).read_faults (F.state folder.new).read_faults → Quiet (S.state out.old).faults (S.state out.new).faults
         → command_of (map string_bytes words.now.items) ≡ Some (core files budget) → AreThere f [] files all → check_items budget all ≡ accepts
         → (result.outcome ≡ Accepted 0 (length all)) ⊎ (result.outcome ≡ Wanted) }
 {
@@ -113,17 +81,9 @@ pub fn cdle_run<F: Folder, S: Sink>(
 
 /// Does what the words ask for.
 fn work<F: Folder>(alloc: Global, words: &Vec<String>, folder: &mut F) -> Done
-    ensures files { F.files folder.new ≡ F.files folder.old }
+    ensures files { (F.state folder.new).files ≡ (F.state folder.old).files }
     ensures work { IsWork (command_of (map string_bytes words.now.items))
-        (record {
-          files = F.files folder.old;
-          given = F.given folder.old;
-          given_after = F.given folder.new;
-          read_faults = F.read_faults folder.old;
-          read_faults_after = F.read_faults folder.new;
-          absences = F.absences folder.old;
-          absences_after = F.absences folder.new;
-        }) result }
+        (record { before = F.state folder.old; after = F.state folder.new }) result }
 {
     match command_asked(alloc, words) {
         Ok(Asked::Core { files, budget }) => core_command(alloc, &files, budget, folder),
@@ -144,7 +104,7 @@ fn usage(alloc: Global) -> Done
 
 /// Puts the report. That memory is wanting is said without any.
 fn put_report<S: Sink>(done: Done, out: &mut S) -> Outcome
-    ensures { Ends (record { written = S.written out.old; written_after = S.written out.new; faults = S.faults out.old; faults_after = S.faults out.new }) (told done.outcome done.report.items) done.outcome result }
+    ensures { Ends (record { before = S.state out.old; after = S.state out.new }) (told done.outcome done.report.items) done.outcome result }
 {
     match done.outcome {
         Outcome::NoMemory => put(Outcome::NoMemory, b"out of memory\n", out),
@@ -154,7 +114,7 @@ fn put_report<S: Sink>(done: Done, out: &mut S) -> Outcome
 
 /// Puts these bytes; the outcome stands where that is done.
 fn put<S: Sink>(outcome: Outcome, report: &[u8], out: &mut S) -> Outcome
-    ensures { Ends (record { written = S.written out.old; written_after = S.written out.new; faults = S.faults out.old; faults_after = S.faults out.new }) report.now outcome result }
+    ensures { Ends (record { before = S.state out.old; after = S.state out.new }) report.now outcome result }
 {
     match out.put(report) {
         Ok(()) => outcome,

@@ -30,10 +30,7 @@ pub struct MemoryFolder {
 impl MemoryFolder {
     /// No files. The calls in `fail` fail, counted from 0.
     pub fn new(alloc: Global, fail: Vec<u32>) -> MemoryFolder
-        ensures files { ⟦<MemoryFolder as Folder>⟧.files result ≡ Some no_files }
-        ensures given { ⟦<MemoryFolder as Folder>⟧.given result ≡ Some [] }
-        ensures read_faults { ⟦<MemoryFolder as Folder>⟧.read_faults result ≡ 0 }
-        ensures absences { ⟦<MemoryFolder as Folder>⟧.absences result ≡ 0 }
+        ensures state { ⟦<MemoryFolder as Folder>⟧.state result ≡ record { files = Some no_files; given = Some []; read_faults = 0; absences = 0 } }
         ensures calls { result.calls ≡ 0 }
         ensures fail { result.fail ≡ fail }
     {
@@ -50,12 +47,9 @@ impl MemoryFolder {
 
     /// Puts a file there, over one of that name. This is no call that is counted.
     pub fn add(&mut self, name: &str, bytes: &[u8]) -> Result<(), NoMemory>
-        ensures added { OnOk result (⟦<MemoryFolder as Folder>⟧.files self.new
-            ≡ option_map (with_file name.now bytes.now) (⟦<MemoryFolder as Folder>⟧.files self.old)) }
-        ensures same { OnErr result (⟦<MemoryFolder as Folder>⟧.files self.new ≡ ⟦<MemoryFolder as Folder>⟧.files self.old) }
-        ensures given { ⟦<MemoryFolder as Folder>⟧.given self.new ≡ ⟦<MemoryFolder as Folder>⟧.given self.old }
-        ensures read_faults { ⟦<MemoryFolder as Folder>⟧.read_faults self.new ≡ ⟦<MemoryFolder as Folder>⟧.read_faults self.old }
-        ensures absences { ⟦<MemoryFolder as Folder>⟧.absences self.new ≡ ⟦<MemoryFolder as Folder>⟧.absences self.old }
+        ensures added { OnOk result (⟦<MemoryFolder as Folder>⟧.state self.new
+            ≡ record (⟦<MemoryFolder as Folder>⟧.state self.old) { files = option_map (with_file name.now bytes.now) (⟦<MemoryFolder as Folder>⟧.state self.old).files }) }
+        ensures same { OnErr result (⟦<MemoryFolder as Folder>⟧.state self.new ≡ ⟦<MemoryFolder as Folder>⟧.state self.old) }
         ensures calls { self.new.calls ≡ self.old.calls }
         ensures fail { self.new.fail ≡ self.old.fail }
     {
@@ -113,13 +107,7 @@ pub(crate) fn is_listed(list: &Vec<u32>, call: u64) -> bool
 }
 
 impl Folder for MemoryFolder {
-    ghost files = { λ s. Some (files_in s.files) };
-
-    ghost given = { λ s. Some (reads_in s.given.items) };
-
-    ghost read_faults = { λ s. s.read_faults };
-
-    ghost absences = { λ s. s.absences };
+    ghost state = { λ s. record { files = Some (files_in s.files); given = Some (reads_in s.given.items); read_faults = s.read_faults; absences = s.absences } };
 
     fn read(&mut self, alloc: Global, name: &str, limit: u64) -> Result<Vec<u8>, ReadStop> {
         if self.fails_now() {

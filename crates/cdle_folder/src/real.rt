@@ -68,13 +68,7 @@ fn take_all<F: Read>(alloc: Global, file: &mut F, limit: u64) -> Taken
 }
 
 impl<'a, R: Files> Folder for DirFolder<'a, R> {
-    ghost files = { λ s. None };
-
-    ghost given = { λ s. None };
-
-    ghost read_faults = { λ s. s.read_faults };
-
-    ghost absences = { λ s. s.absences };
+    ghost state = { λ s. record { files = None; given = None; read_faults = s.read_faults; absences = s.absences } };
 
     /// An absence is counted where the system says that the name does not exist. A folder's name, and a path whose middle is a plain
     /// file, are faults.
@@ -132,9 +126,7 @@ fn print_all<R: Print>(rt: &R, bytes: &[u8]) -> bool {
 }
 
 impl<'a, R: Print> Sink for StdSink<'a, R> {
-    ghost written = { λ s. None };
-
-    ghost faults = { λ s. s.faults };
+    ghost state = { λ s. record { written = None; faults = s.faults } };
 
     fn put(&mut self, bytes: &[u8]) -> Result<(), PutFailed> {
         if print_all(self.rt, bytes) {

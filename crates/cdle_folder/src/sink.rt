@@ -22,8 +22,7 @@ pub struct MemorySink {
 impl MemorySink {
     /// Nothing is written. The puts in `fail` fail, counted from 0, and each that finds too little room.
     pub fn new(alloc: Global, fail: Vec<u32>, room: usize) -> Result<MemorySink, NoMemory>
-        ensures written { IfOk result (λ sink. ⟦<MemorySink as Sink>⟧.written sink ≡ Some []) }
-        ensures faults { IfOk result (λ sink. ⟦<MemorySink as Sink>⟧.faults sink ≡ 0) }
+        ensures state { IfOk result (λ sink. ⟦<MemorySink as Sink>⟧.state sink ≡ record { written = Some []; faults = 0 }) }
         ensures fails { IfOk result (λ sink. sink.fail ≡ fail) }
         ensures room { IfOk result (λ sink. sink.room ≡ room) }
         ensures puts { IfOk result (λ sink. sink.puts ≡ 0) }
@@ -60,16 +59,14 @@ impl MemorySink {
 
     /// What is written.
     pub fn bytes(&self) -> &[u8]
-        ensures { Some result.now ≡ ⟦<MemorySink as Sink>⟧.written self.now }
+        ensures { Some result.now ≡ (⟦<MemorySink as Sink>⟧.state self.now).written }
     {
         self.bytes.as_slice()
     }
 }
 
 impl Sink for MemorySink {
-    ghost written = { λ s. Some s.bytes.items };
-
-    ghost faults = { λ s. s.faults };
+    ghost state = { λ s. record { written = Some s.bytes.items; faults = s.faults } };
 
     fn put(&mut self, bytes: &[u8]) -> Result<(), PutFailed> {
         if self.append(bytes) {

@@ -20,8 +20,7 @@ pub struct SureFolder {
 impl SureFolder {
     /// No files.
     pub fn new(alloc: Global) -> SureFolder
-        ensures files { ⟦<SureFolder as Folder>⟧.files result ≡ Some no_files }
-        ensures absences { ⟦<SureFolder as Folder>⟧.absences result ≡ 0 }
+        ensures { ⟦<SureFolder as Folder>⟧.state result ≡ record { files = Some no_files; given = None; read_faults = 0; absences = 0 } }
     {
         SureFolder {
             alloc,
@@ -32,23 +31,16 @@ impl SureFolder {
 
     /// Puts a file there, over one of that name.
     pub fn add(&mut self, name: &str, bytes: &[u8]) -> Result<(), NoMemory>
-        ensures added { OnOk result (⟦<SureFolder as Folder>⟧.files self.new
-            ≡ option_map (with_file name.now bytes.now) (⟦<SureFolder as Folder>⟧.files self.old)) }
-        ensures same { OnErr result (⟦<SureFolder as Folder>⟧.files self.new ≡ ⟦<SureFolder as Folder>⟧.files self.old) }
-        ensures absences { ⟦<SureFolder as Folder>⟧.absences self.new ≡ ⟦<SureFolder as Folder>⟧.absences self.old }
+        ensures added { OnOk result (⟦<SureFolder as Folder>⟧.state self.new
+            ≡ record (⟦<SureFolder as Folder>⟧.state self.old) { files = option_map (with_file name.now bytes.now) (⟦<SureFolder as Folder>⟧.state self.old).files }) }
+        ensures same { OnErr result (⟦<SureFolder as Folder>⟧.state self.new ≡ ⟦<SureFolder as Folder>⟧.state self.old) }
     {
         put_file(self.alloc, &mut self.files, name, bytes).map_err(|_| NoMemory)
     }
 }
 
 impl Folder for SureFolder {
-    ghost files = { λ s. Some (files_in s.files) };
-
-    ghost given = { λ s. None };
-
-    ghost read_faults = { λ s. 0 };
-
-    ghost absences = { λ s. s.absences };
+    ghost state = { λ s. record { files = Some (files_in s.files); given = None; read_faults = 0; absences = s.absences } };
 
     fn read(&mut self, alloc: Global, name: &str, limit: u64) -> Result<Vec<u8>, ReadStop> {
         let Some(file) = look(&self.files, name) else {

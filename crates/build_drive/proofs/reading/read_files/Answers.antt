@@ -2,6 +2,7 @@ use Rattle.std.proofs.Common.{◌≡◌, ◌∙◌, ◌+◌, ◌≤◌, ◌++◌
 use Rattle.std.proofs.lemmas.List.{drop_all, length-map}
 use Rattle.std.proofs.lemmas.Result.{err_from_is_err_and}
 use Rattle.cdle_folder.specs.Files.{Bytes}
+use Rattle.cdle_folder.specs.States.{FolderState}
 use Rattle.cdle_model.specs.CoreNames.{with_items}
 use Rattle.cdle_model.specs.CoreText.{Says}
 use Rattle.cdle_model.specs.Forms.{Written}
@@ -20,24 +21,8 @@ read_file-requires-clause-counted g c =
 
 pub returns-in_err-next-clause-ended : goal.returns-in_err-next-clause-ended
 returns-in_err-next-clause-ended g c =
-    let u : Visit = record {
-      files = g.F.Folder.files c.loop-file.folder;
-      given = g.F.Folder.given c.loop-file.folder;
-      given_after = g.F.Folder.given c.read_file.new.folder;
-      read_faults = g.F.Folder.read_faults c.loop-file.folder;
-      read_faults_after = g.F.Folder.read_faults c.read_file.new.folder;
-      absences = g.F.Folder.absences c.loop-file.folder;
-      absences_after = g.F.Folder.absences c.read_file.new.folder;
-    } in
-    let v : Visit = record {
-      files = g.F.Folder.files c.args.folder.now;
-      given = g.F.Folder.given c.args.folder.now;
-      given_after = g.F.Folder.given c.read_file.new.folder;
-      read_faults = g.F.Folder.read_faults c.args.folder.now;
-      read_faults_after = g.F.Folder.read_faults c.read_file.new.folder;
-      absences = g.F.Folder.absences c.args.folder.now;
-      absences_after = g.F.Folder.absences c.read_file.new.folder;
-    } in
+    let u : Visit = record { before = g.F.Folder.state c.loop-file.folder; after = g.F.Folder.state c.read_file.new.folder } in
+    let v : Visit = record { before = g.F.Folder.state c.args.folder.now; after = g.F.Folder.state c.read_file.new.folder } in
     let names : List Bytes = map string_bytes c.args.files.now.items in
     let es : List Written = items_of c.loop-file.read.items in
     let same = c.deref-file-items.ensures.value in
@@ -45,8 +30,8 @@ returns-in_err-next-clause-ended g c =
     let inv = c.loop-file.invariant in
     let p = err_from_is_err_and c.from_residual.result c.from_residual.ensures.1 in
     rw (p.1, p.2) (λ n. ends_early (IsVerdict n) u v names es (known_names c.loop-file.known) c.as_str.result.now (drop (c.loop-file.file-index + 1) names) c.in_err-next.field-0.0
-    (record { files = inv.files; given = refl; read_faults = inv.read_faults; read_faults_after = refl; absences = inv.absences; absences_after = refl })
-    inv.known (rw c.as_str.ensures.value (subst (HasCome (IsVerdict n) v names u.given es) left (inv.come n v refl refl))) c.in_err-next.ensures.ended)
+    (record { files = inv.files; read_faults = inv.read_faults; absences = inv.absences; after = refl })
+    inv.known (rw c.as_str.ensures.value (subst (HasCome (IsVerdict n) v names u.before.given es) left (inv.come n v refl))) c.in_err-next.ensures.ended)
 
 pub loop-file-preserved : goal.loop-file-preserved
 loop-file-preserved g c =
@@ -66,22 +51,14 @@ loop-file-preserved g c =
       counted = rw pushed (omega (arith, inv.counted, c.len-items.ensures, length-append es ws));
       few = rw pushed (omega (arith, read.5, ap length inv.known, names-length es [], length-append es ws));
       over = rw pushed (over-append [] es ws inv.over (said-over read.0 es ws (subst (λ k. Says read.0 k ws) inv.known read.4)));
-      come = λ n v told given. subst (λ all. HasCome (IsVerdict n) v names (g.F.Folder.given c.read_file.new.folder) all (drop (c.loop-file.file-index + 1) names)) (sym pushed)
-          (has_come (IsVerdict n) v names es ws (known_names c.loop-file.known) c.as_str.result.now (drop (c.loop-file.file-index + 1) names) (g.F.Folder.files c.loop-file.folder) (g.F.Folder.given c.loop-file.folder) (g.F.Folder.given c.read_file.new.folder)
-          (inv.files ∙ sym told) inv.known (rw c.as_str.ensures.value (subst (HasCome (IsVerdict n) v names (g.F.Folder.given c.loop-file.folder) es) left (inv.come n v told given))) read);
+      come = λ n v start. subst (λ all. HasCome (IsVerdict n) v names (g.F.Folder.state c.read_file.new.folder).given all (drop (c.loop-file.file-index + 1) names)) (sym pushed)
+          (has_come (IsVerdict n) v names es ws (known_names c.loop-file.known) c.as_str.result.now (drop (c.loop-file.file-index + 1) names) (g.F.Folder.state c.loop-file.folder).files (g.F.Folder.state c.loop-file.folder).given (g.F.Folder.state c.read_file.new.folder).given
+          (inv.files ∙ sym (ap (λ (w : FolderState). w.files) start)) inv.known (rw c.as_str.ensures.value (subst (HasCome (IsVerdict n) v names (g.F.Folder.state c.loop-file.folder).given es) left (inv.come n v start))) read);
     }
 
 pub returns-clause-read : goal.returns-clause-read
 returns-clause-read g c =
-    let v : Visit = record {
-      files = g.F.Folder.files c.args.folder.now;
-      given = g.F.Folder.given c.args.folder.now;
-      given_after = g.F.Folder.given c.loop-file.folder;
-      read_faults = g.F.Folder.read_faults c.args.folder.now;
-      read_faults_after = g.F.Folder.read_faults c.loop-file.folder;
-      absences = g.F.Folder.absences c.args.folder.now;
-      absences_after = g.F.Folder.absences c.loop-file.folder;
-    } in
+    let v : Visit = record { before = g.F.Folder.state c.args.folder.now; after = g.F.Folder.state c.loop-file.folder } in
     let names : List Bytes = map string_bytes c.args.files.now.items in
     let done : length names ≤ c.loop-file.file-index = rw length-map (rw c.deref-file-items.ensures.value at c.loop-file-test.false) in
-    λ n. subst (HasCome (IsVerdict n) v names (g.F.Folder.given c.loop-file.folder) (items_of c.loop-file.read.items)) (drop_all c.loop-file.file-index names done) (c.loop-file.invariant.come n v refl refl)
+    λ n. subst (HasCome (IsVerdict n) v names (g.F.Folder.state c.loop-file.folder).given (items_of c.loop-file.read.items)) (drop_all c.loop-file.file-index names done) (c.loop-file.invariant.come n v refl)
