@@ -1,5 +1,5 @@
 -- How a call ends: its report is put, or putting it failed.
-use Rattle.std.specs.Prelude.{◌≡◌, ◌⊎◌, ℕ, Option, None}
+use Rattle.std.specs.Prelude.{◌≡◌, ◌⊎◌, Option, None}
 use Rattle.cdle_folder.specs.Causes.{Rose}
 use Rattle.cdle_folder.specs.Files.{Bytes, PutsPrefix, with_bytes}
 use Rattle.cdle_folder.specs.States.{SinkState}
