@@ -48,16 +48,20 @@ fn files_in_order(rt: HostRuntime) -> Result<(), Fail> {
 fn limits_and_faults(rt: HostRuntime) -> Result<(), Fail> {
     let alloc = rt.alloc();
     let mut fail = Vec::new(alloc);
-    fail.push(3)?;
+    fail.push(5)?;
     let mut folder = MemoryFolder::new(alloc, fail);
     folder.add("long", " ".repeat(alloc, 1_048_577)?.as_bytes())?;
     folder.add("id", IDENTITY.as_bytes())?;
-    let items = "(def a (allt X * (pi x X X)) (xlam X * (lam x X x)))".repeat(alloc, 5_001)?;
-    folder.add("half", format!(in alloc; "core 1 {items}")?.as_bytes())?;
-    assert!(rt; report(alloc, &["long", "id"], &mut folder)?.as_str() == "limit long: bytes\n");
-    assert!(rt;
-        report(alloc, &["half", "half", "id"], &mut folder)?.as_str() == "limit half: items\n"
-    );
-    assert!(rt; report(alloc, &["id", "half"], &mut folder)?.as_str() == "cannot read id\n");
+    let items = "(def a (allt X * (pi x X X)) (xlam X * (lam x X x)))".repeat(alloc, 10_000)?;
+    folder.add("most", format!(in alloc; "core 1 {items}")?.as_bytes())?;
+    let rows = [
+        (["long", "id"], "limit long: bytes\n"),
+        (["most", "id"], "limit id: items\n"),
+        (["id", "most"], "limit most: items\n"),
+        (["id", "most"], "cannot read id\n"),
+    ];
+    for (files, wanted) in rows.iter() {
+        assert!(rt; report(alloc, files, &mut folder)?.as_str() == *wanted);
+    }
     Ok(())
 }
