@@ -1,5 +1,5 @@
 //! The check of all items.
-ghost use Rattle.std.specs.Prelude.{◌≡◌, ◌<◌, ◌≤◌, [], IfOk, length};
+ghost use Rattle.std.specs.Prelude.{◌<◌, ◌≤◌, [], IfOk, length};
 ghost use Rattle.cdle_model.specs.Classes.{AreItems};
 ghost use Rattle.core_check.specs.Answer.{IsFaultOf};
 ghost use Rattle.core_check.specs.Items.{items_of};

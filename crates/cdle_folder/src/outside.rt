@@ -1,6 +1,6 @@
 //! The traits of the outside.
-ghost use Rattle.std.specs.Prelude.{◌≡◌, ◌≤◌, ◌⊎◌, ℕ, List, Option, Some, None, IfOk, OnOk, OnErr, IfSome, IsErrOf, length};
-ghost use Rattle.cdle_folder.specs.Files.{Bytes, Files, IsLonger, PutsPrefix, Reads, told, with_bytes, with_read};
+ghost use Rattle.std.specs.Prelude.{◌≡◌, ◌≤◌, ◌⊎◌, Some, None, IfOk, OnOk, OnErr, IfSome, IsErrOf, length};
+ghost use Rattle.cdle_folder.specs.Files.{IsLonger, PutsPrefix, told, with_bytes, with_read};
 ghost use Rattle.cdle_folder.specs.Causes.{Quiet, Rose};
 ghost use Rattle.cdle_folder.specs.States.{FolderState, SinkState};
 ghost use Rattle.cdle_folder.specs.declared.outside.ReadStop.TheVariants as stop;

@@ -11,7 +11,7 @@ use Rattle.cdle_model.specs.declared.grammar.CoreWanted.{CoreWanted}
 use Rattle.cdle_model.specs.declared.grammar.CoreWanted.TheVariants as wanted
 use Rattle.cdle_model.specs.Trees.{Tree}
 use Rattle.cdle_model.specs.Forms as forms
-use Rattle.cdle_model.specs.Forms.{Written, def_item, type_item, name_of}
+use Rattle.cdle_model.specs.Forms.{Written, name_of}
 use Rattle.cdle_model.specs.CoreTokens.{Lexeme, Opens, Closes, Word, Token}
 use Rattle.cdle_model.specs.CoreGrammar.{form_of, names_of, pieces, look_up, item_words, item_pieces, made_item}
 use Rattle.cdle_model.specs.Classes.{item_sort}

@@ -12,7 +12,7 @@ use Rattle.cdle_model.specs.declared.grammar.CoreWanted.{CoreWanted}
 use Rattle.cdle_model.specs.declared.grammar.CoreWanted.TheVariants as wanted
 use Rattle.cdle_model.specs.Trees.{Tree}
 use Rattle.cdle_model.specs.Forms as forms
-use Rattle.cdle_model.specs.Forms.{Written, def_item, type_item, name_of}
+use Rattle.cdle_model.specs.Forms.{Written, name_of}
 use Rattle.cdle_model.specs.CoreTokens.{Opens, Closes, Word, Token}
 use Rattle.cdle_model.specs.CoreFaults.{Fault, BadText, WrongClass}
 use Rattle.cdle_model.specs.CoreGrammar.{form_of, names_of, pieces, made, look_up, item_words, item_pieces, item_parts, made_item}

@@ -1,10 +1,10 @@
 //! Worked lists of items, each with its answer by the plain check. Each is a clause of a function with an empty body.
-ghost use Rattle.std.specs.Prelude.{◌≡◌, ℕ, suc, Some, List, [], ◌∷◌};
+ghost use Rattle.std.specs.Prelude.{◌≡◌, ℕ, suc, Some, [], ◌∷◌};
 ghost use Rattle.cdle_model.specs.Check.{accepts, check_items, duplicate, ends, erased_use, mismatch, not_a_function, not_an_equation, not_an_intersection, not_booleans, parts_differ, refuses, sides_differ, spends, wrong_kind};
 ghost use Rattle.cdle_model.specs.Examples.{argument_never_reached, delta_of_one_side, doubled_type, endless, erased_variable_in_kept_part, erased_variable_used, growing, identity, of_variable, other_type, pair_by_eta, pair_of_other_parts, repeated_file, rho_from_left, rho_from_right, rho_plain, type_of_wrong_kind};
 ghost use Rattle.cdle_model.specs.Forms.{allt, app, eq, fn, fst, kpit, phi, pi, star};
 ghost use Rattle.cdle_model.specs.HeadForms.{deep};
-ghost use Rattle.cdle_model.specs.Trees.{Tree, var};
+ghost use Rattle.cdle_model.specs.Trees.{var};
 
 /// Lists of items that are accepted, each with the least units for which it is.
 pub fn examples_are_accepted()

@@ -1,5 +1,5 @@
 //! The rules of items.
-ghost use Rattle.std.specs.Prelude.{◌≡◌, [], IfOk, List, ℕ};
+ghost use Rattle.std.specs.Prelude.{[], IfOk, List, ℕ};
 ghost use Rattle.cdle_model.specs.Check.{infer_item};
 ghost use Rattle.cdle_model.specs.Classes.{Fits, IsOver, item_sorts, kinds, terms, types, within};
 ghost use Rattle.cdle_model.specs.Derivation.{signature};

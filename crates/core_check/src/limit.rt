@@ -1,5 +1,5 @@
 //! Trees that the rules build, none of them deeper than 4,096.
-ghost use Rattle.std.specs.Prelude.{◌≡◌, ◌+◌, ◌<◌, IfOk};
+ghost use Rattle.std.specs.Prelude.{◌≡◌, ◌+◌, ◌<◌};
 ghost use Rattle.cdle_model.specs.Classes.{UsedAs, guide_kinds, guides};
 ghost use Rattle.cdle_model.specs.Depth.{depth};
 ghost use Rattle.cdle_model.specs.Forms.{all as all_tree, allt as allt_tree, eq as eq_tree, iota as iota_tree, kpi as kpi_tree, kpit as kpit_tree, pi as pi_tree};

@@ -1,12 +1,12 @@
 //! The types of terms, by Core's rules read upwards.
-ghost use Rattle.std.specs.Prelude.{◌≡◌, ◌+◌, ◌≤◌, IfOk, length};
+ghost use Rattle.std.specs.Prelude.{◌+◌, ◌≤◌, IfOk, length};
 ghost use Rattle.cdle_model.specs.Check.{at_part, infer};
 ghost use Rattle.cdle_model.specs.Classes.{Fits, guides, item_sorts, terms, within};
 ghost use Rattle.cdle_model.specs.Depth.{depth};
 ghost use Rattle.cdle_model.specs.Derivation.{a_term, signature};
 ghost use Rattle.cdle_model.specs.Erasure.{HasErasure};
 ghost use Rattle.cdle_model.specs.Fitting.{ContextFits};
-ghost use Rattle.cdle_model.specs.Forms.{app, beta, delta, eapp, elam, fst, lam, pair, phi, rho, snd, tapp, xlam};
+ghost use Rattle.cdle_model.specs.Forms.{app, delta, eapp, elam, fst, lam, pair, phi, rho, snd, tapp, xlam};
 ghost use Rattle.cdle_model.specs.Trees.{name, var};
 ghost use Rattle.core_check.specs.Context.{entries, sorts};
 ghost use Rattle.core_check.specs.Questions.{Finds, Meets};

@@ -3,7 +3,7 @@ ghost use Rattle.std.specs.Prelude.{◌≡◌, ◌+◌, ◌∷◌, ◌≤◌, If
 ghost use Rattle.cdle_model.specs.Check.{at_part, finds, infer, star_then};
 ghost use Rattle.cdle_model.specs.Classes.{Fits, guide_kinds, guides, item_sorts, types, within};
 ghost use Rattle.cdle_model.specs.Depth.{depth};
-ghost use Rattle.cdle_model.specs.Derivation.{Judgement, a_kind, a_type, signature, term_of, type_of};
+ghost use Rattle.cdle_model.specs.Derivation.{a_type, signature, term_of};
 ghost use Rattle.cdle_model.specs.Erasure.{HasErasure, erased};
 ghost use Rattle.cdle_model.specs.Fitting.{ContextFits};
 ghost use Rattle.cdle_model.specs.Forms.{allt, at_, on, pi, star, tlam, xtlam};

@@ -1,5 +1,5 @@
 //! Core files out of one line.
-ghost use Rattle.std.specs.Prelude.{◌≡◌, ◌≤◌, [], IfOk, length};
+ghost use Rattle.std.specs.Prelude.{IfOk};
 ghost use Rattle.cdle_model.specs.Classes.{AreItems};
 ghost use Rattle.core_check.specs.Items.{items_of};
 

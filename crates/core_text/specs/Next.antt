@@ -1,7 +1,7 @@
 -- What one call takes from the text.
 use Rattle.std.specs.Prelude.{◌≡◌, ℕ, ◌<◌, ◌≤◌, false, ◌==◌, List, ◌∷◌, length, slice_index}
 use Rattle.std.specs.Str.{IsCharBoundary, IsUtf8}
-use Rattle.cdle_model.specs.CoreTokens.{Token, Opens, Closes, Word, tokens, is_white, ends_word}
+use Rattle.cdle_model.specs.CoreTokens.{Token, Opens, Closes, Word, is_white}
 use Rattle.cdle_model.specs.CoreTokens as model
 use Rattle.core_text.specs.View.{rest}
 use Rattle.core_text.specs.declared.token.Lexeme.{Lexeme}

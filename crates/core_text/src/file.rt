@@ -1,5 +1,5 @@
 //! Reading whole files.
-ghost use Rattle.std.specs.Prelude.{◌≡◌, ◌+◌, ◌<◌, ◌≤◌, ◌^◌, length, IfOk, IfErr};
+ghost use Rattle.std.specs.Prelude.{◌<◌, ◌≤◌, ◌^◌, length, IfOk, IfErr};
 ghost use Rattle.cdle_model.specs.CoreText.{Says};
 ghost use Rattle.core_text.specs.File.{IsFaultOf};
 ghost use Rattle.core_text.specs.View.{IsPlaced};

@@ -1,5 +1,5 @@
 //! The tokens of a text, one at a time.
-ghost use Rattle.std.specs.Prelude.{◌≡◌, ◌+◌, ◌<◌, ◌≤◌, ◌∷◌, [], ℕ, false, true, length, slice_range, slice_index, drop, MatchOption, IsTrue};
+ghost use Rattle.std.specs.Prelude.{◌≡◌, ◌+◌, ◌<◌, ◌≤◌, ◌∷◌, [], false, true, length, slice_range, slice_index, drop, MatchOption};
 ghost use Rattle.std.specs.Str.{IsCharBoundary, IsUtf8};
 ghost use Rattle.cdle_model.specs.CoreTokens.{is_white, ends_word, Opens, Closes, Word, tokens};
 ghost use Rattle.core_text.specs.View.{rest};

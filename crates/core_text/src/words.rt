@@ -1,5 +1,5 @@
 //! Reading single tokens, each where the grammar wants it.
-ghost use Rattle.std.specs.Prelude.{◌≡◌, ◌<◌, ◌≤◌, ◌^◌, length, IfErr, IfOk};
+ghost use Rattle.std.specs.Prelude.{◌≡◌, ◌<◌, ◌^◌, length, IfErr, IfOk};
 ghost use Rattle.std.specs.Str.{IsCharBoundary, IsUtf8};
 ghost use Rattle.cdle_model.specs.CoreGrammar.{class_of_form};
 ghost use Rattle.cdle_model.specs.CoreTokens.{IsWordAt};

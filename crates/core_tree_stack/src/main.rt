@@ -4,7 +4,7 @@
 //! has by default. It promises nothing else, and stands on `core_tree`.
 #![tactic(auto)]
 
-ghost use Rattle.std.specs.Prelude.{◌≡◌, ◌≤◌, IfOk};
+ghost use Rattle.std.specs.Prelude.{IfOk};
 ghost use Rattle.cdle_model.specs.Trees.{IsBelow};
 ghost use Rattle.cdle_model.specs.Classes.{guides, pure_terms, UsedAs};
 ghost use Rattle.cdle_model.specs.Erasure.{HasErasure};
