@@ -3,7 +3,7 @@ use Rattle.std.proofs.Common.{◌≡◌, ◌∙◌, false, ◌+◌, ◌-◌, ◌
 use Rattle.std.proofs.Math.Seq.{drop-cons}
 use Rattle.std.proofs.lemmas.List.{append-nil, drop-map, get_or_append_left}
 use Rattle.std.proofs.lemmas.Option.{get_or_from_slice_get, slice_get-get_or, slice_get_cases, slice_get_within}
-use Rattle.cdle_model.specs.Classes.{AreOver}
+use Rattle.cdle_model.specs.Classes.{AreScopedOver}
 use Rattle.cdle_model.specs.CoreNames.{Name, with_item, with_items}
 use Rattle.cdle_model.specs.CoreText.{Says}
 use Rattle.cdle_model.specs.CoreTokens.{tokens}
@@ -20,12 +20,12 @@ pub names-length : (es : List Written) (known : List Name) → length (with_item
 names-length [] known = omega arith
 names-length (e ∷ es) known = omega (arith, names-length es (with_item e known))
 
-pub over-append : (ds es ws : List Written) → AreOver ds es → AreOver (ds ++ es) ws → AreOver ds (es ++ ws)
-over-append ds [] ws h g = subst (λ x. AreOver x ws) (append-nil ds) g
-over-append ds (e ∷ es) ws h g = (h.0, over-append (ds ++ (e ∷ [])) es ws h.1 (subst (λ x. AreOver x ws) (sym (append_assoc ds (e ∷ []) es)) g))
+pub over-append : (ds es ws : List Written) → AreScopedOver ds es → AreScopedOver (ds ++ es) ws → AreScopedOver ds (es ++ ws)
+over-append ds [] ws h g = subst (λ x. AreScopedOver x ws) (append-nil ds) g
+over-append ds (e ∷ es) ws h g = (h.0, over-append (ds ++ (e ∷ [])) es ws h.1 (subst (λ x. AreScopedOver x ws) (sym (append_assoc ds (e ∷ []) es)) g))
 
 -- what bytes say behind items is over these
-pub said-over : (bytes : List ℕ) (es ws : List Written) → Says bytes (with_items es []) ws → AreOver es ws
+pub said-over : (bytes : List ℕ) (es ws : List Written) → Says bytes (with_items es []) ws → AreScopedOver es ws
 said-over bytes es ws h = file_read 1023 (tokens false 0 bytes) es ws h.file
 
 pub items-push : (fs : List CoreFile) (f : CoreFile) → items_of (fs ++ (f ∷ [])) ≡ items_of fs ++ f.items

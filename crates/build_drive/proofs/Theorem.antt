@@ -3,7 +3,7 @@ use Rattle.std.proofs.Common.{◌≡◌, ◌∙◌, ◌⊎◌, inl, inr, ◌++�
 use Rattle.cdle_folder.specs.Causes.{Quiet}
 use Rattle.cdle_folder.specs.Files.{Bytes, Files, Reads, with_read}
 use Rattle.cdle_model.specs.Check.{ListVerdict, accepts, check_items, duplicate, ends, refuses}
-use Rattle.cdle_model.specs.Classes.{AreOver}
+use Rattle.cdle_model.specs.Classes.{AreScopedOver}
 use Rattle.cdle_model.specs.CoreNames.{Name}
 use Rattle.cdle_model.specs.Derivation.{AreDerived}
 use Rattle.cdle_model.specs.Forms.{Written}
@@ -90,9 +90,9 @@ undecided n v files d spot units call e =
 
 -- ---- where nothing fails
 
-seen : (Verdict : List Written → Outcome → Type 0) (f : Files) (es : List Written) (files : List Bytes) (all : List Written) → AreOver [] es → AreThere f es files all
-    → AreOver [] all × (s : Sight) × IsThere f files s × ((o : Outcome) → Verdict all o → IsOutcome Verdict es s o)
-seen Verdict f es [] all over h = (subst (AreOver []) (sym h) over, every, tt, λ o x. subst (λ (ws : List Written). Verdict ws o) h x)
+seen : (Verdict : List Written → Outcome → Type 0) (f : Files) (es : List Written) (files : List Bytes) (all : List Written) → AreScopedOver [] es → AreThere f es files all
+    → AreScopedOver [] all × (s : Sight) × IsThere f files s × ((o : Outcome) → Verdict all o → IsOutcome Verdict es s o)
+seen Verdict f es [] all over h = (subst (AreScopedOver []) (sym h) over, every, tt, λ o x. subst (λ (ws : List Written). Verdict ws o) h x)
 seen Verdict f es (file ∷ files) all over h =
     let bytes = h.0 in
     let ws = h.1 in

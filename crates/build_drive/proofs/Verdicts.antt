@@ -9,7 +9,7 @@ use Rattle.cdle_model.specs.Forms.{Written, name_of}
 use Rattle.cdle_model.specs.HeadForms.{deep}
 use Rattle.cdle_model.specs.Trees.{Tree}
 use Rattle.cdle_model.specs.declared.grammar.Count.TheVariants.{Depth}
-use Rattle.cdle_model.specs.Classes.{AreItems}
+use Rattle.cdle_model.specs.Classes.{AreScoped}
 use Rattle.cdle_model.proofs.CheckLargerBudget.{list-stays}
 use Rattle.cdle_model.proofs.ItemsChecked.{duplicate-lost, refused-lost}
 use Rattle.cdle_model.proofs.Undecided.{undecided-spent}
@@ -29,12 +29,12 @@ use Rattle.build_drive.specs.declared.outcome.Spot.TheVariants.{CoreSpot}
 
 -- ---- from a fault to its outcome
 
-pub refused-verdict : (n : ℕ) (ws : List Written) (i : ℕ) (path : List ℕ) (why : Why) (name : Bytes) → AreItems ws → IsFaultOf n ws (fault.Refused i path why) → IsItemName ws i name
+pub refused-verdict : (n : ℕ) (ws : List Written) (i : ℕ) (path : List ℕ) (why : Why) (name : Bytes) → AreScoped ws → IsFaultOf n ws (fault.Refused i path why) → IsItemName ws i name
     → IsVerdict n ws (outcome.Refused (CoreSpot name path) (Core why))
 refused-verdict n ws i path why name over h item =
     (h.0, subst (λ v. Tells ws v (outcome.Refused (CoreSpot name path) (Core why))) (sym h.2) ((item, refl), h.3, refused-lost ws over h.0 i path h.1 h.2))
 
-pub duplicate-verdict : (n : ℕ) (ws : List Written) (i earlier : ℕ) (name : Bytes) → AreItems ws → IsFaultOf n ws (fault.Duplicate i earlier) → IsItemName ws i name
+pub duplicate-verdict : (n : ℕ) (ws : List Written) (i earlier : ℕ) (name : Bytes) → AreScoped ws → IsFaultOf n ws (fault.Duplicate i earlier) → IsItemName ws i name
     → IsVerdict n ws (outcome.Refused (CoreSpot name []) (Duplicate earlier))
 duplicate-verdict n ws i earlier name over h item =
     (h.0, subst (λ v. Tells ws v (outcome.Refused (CoreSpot name []) (Duplicate earlier))) (sym h.1) ((item, refl), refl, duplicate-lost ws over h.0 i earlier h.1))

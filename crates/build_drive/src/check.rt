@@ -1,6 +1,6 @@
 //! The check of all items.
 ghost use Rattle.std.specs.Prelude.{◌<◌, ◌≤◌, [], IfOk, length};
-ghost use Rattle.cdle_model.specs.Classes.{AreItems};
+ghost use Rattle.cdle_model.specs.Classes.{AreScoped};
 ghost use Rattle.core_check.specs.Answer.{IsFaultOf};
 ghost use Rattle.core_check.specs.Items.{items_of};
 ghost use Rattle.build_drive.specs.Answers.{most_items};
@@ -17,7 +17,7 @@ use std::alloc::Global;
 
 /// What the check of all items comes to.
 pub(crate) fn checked(alloc: Global, files: &Vec<CoreFile>, budget: u64) -> Result<Done, NoMemory>
-    requires items { AreItems (items_of files.now.items) }
+    requires items { AreScoped (items_of files.now.items) }
     requires few { length (items_of files.now.items) ≤ most_items }
     ensures verdict { IfOk result (λ done. IsVerdict budget (items_of files.now.items) done.outcome) }
     ensures report { IfOk result (IsReported []) }
@@ -39,7 +39,7 @@ fn refused(
     budget: u64,
     fault: CoreFault,
 ) -> Result<Outcome, NoMemory>
-    requires items { AreItems (items_of files.now.items) }
+    requires items { AreScoped (items_of files.now.items) }
     requires fault { IsFaultOf budget (items_of files.now.items) fault }
     ensures verdict { IfOk result (IsVerdict budget (items_of files.now.items)) }
     ensures shown { IfOk result (IsShown []) }

@@ -1,6 +1,6 @@
 //! Reading the files, one behind the other.
 ghost use Rattle.std.specs.Prelude.{◌≡◌, ◌+◌, ◌≤◌, [], ℕ, List, IfErr, IfOk, MatchOption, length, map, string_bytes};
-ghost use Rattle.cdle_model.specs.Classes.{AreItems};
+ghost use Rattle.cdle_model.specs.Classes.{AreScoped};
 ghost use Rattle.cdle_model.specs.CoreNames.{Name};
 ghost use Rattle.cdle_model.specs.CoreText.{Says};
 ghost use Rattle.cdle_model.specs.Report.{wanted_word};
@@ -34,7 +34,7 @@ pub(crate) fn read_files<F: Folder>(
     folder: &mut F,
 ) -> Result<Vec<CoreFile>, Stop>
     ensures files { (F.state folder.new).files ≡ (F.state folder.old).files }
-    ensures items { IfOk result (λ read. AreItems (items_of read.items)) }
+    ensures items { IfOk result (λ read. AreScoped (items_of read.items)) }
     ensures few { IfOk result (λ read. length (items_of read.items) ≤ most_items) }
     ensures read { IfOk result (λ read. (n : ℕ) → HasCome (IsVerdict n) (record { before = F.state folder.old; after = F.state folder.new }) (map string_bytes files.now.items) (F.state folder.new).given (items_of read.items) []) }
     ensures ended { IfErr result (λ stop. (n : ℕ) → EndsEarly (IsVerdict n) (record { before = F.state folder.old; after = F.state folder.new }) (map string_bytes files.now.items) stop) }

@@ -150,5 +150,9 @@ fn count_text(what: Count) -> &'static str
         Count::Nesting => "nesting",
         Count::Depth => "depth",
         Count::Items => "items",
+        Count::Modules => "modules",
+        Count::Constructors => "constructors",
+        Count::Arguments => "arguments",
+        Count::Parameters => "parameters",
     }
 }

@@ -5,7 +5,7 @@ use Rattle.cdle_model.specs.Steps.{IsSignature, contract, unfold_name, eta, here
 use Rattle.cdle_model.specs.Depth.{depth}
 use Rattle.cdle_model.specs.Machine.{Move, stop, go, answered, spent, run}
 use Rattle.cdle_model.specs.HeadForms.{deep, deepest, HeadStep, none, to, blocked, contraction, step_under, head_step}
-use Rattle.cdle_model.specs.Comparison.{Head, variable, constant, argument, applied_head, head_of, parts_by, parts_of, Pair, pairs_of, function_of, applied, Split, into, differ, unsorted, same_heads, against, split_by, split, Answer, apart, State, pairs, taken, past, same_name, move_pairs, move_split, move_taken, move, compare}
+use Rattle.cdle_model.specs.Comparison.{Head, variable, constant, argument, applied_head, head_of, parts_by, parts_of, Pair, pairs_of, function_of, applied, Split, into, differ, classless, same_heads, against, split_by, split, Answer, apart, State, pairs, taken, past, same_name, move_pairs, move_split, move_taken, move, compare}
 use Rattle.cdle_model.proofs.Renaming.{up}
 use Rattle.cdle_model.proofs.Shifts.{shift-up}
 use Rattle.cdle_model.proofs.Rewriting.{linked-join, linked-turn}
@@ -152,7 +152,7 @@ module _ (s : List Tree) (g : IsSignature s) where
   Fine : Split → Type 0
   Fine (into qs) = AllJoined s qs
   Fine differ = ⊥
-  Fine unsorted = Unit {0}
+  Fine classless = Unit {0}
 
   against-fine : (h : Head) (qs : List Pair) → AllJoined s qs → Fine (against h qs)
   unfolding Fine
@@ -205,7 +205,7 @@ module _ (s : List Tree) (g : IsSignature s) where
   unfolding Fine Onward
   split-onward (into qs) a b ps h k = pairs-onward (qs ++ ps) (all-append (Joined s) qs ps h k)
   split-onward differ a b ps h k = absurd h
-  split-onward unsorted a b ps h k = tt
+  split-onward classless a b ps h k = tt
 
   taken-onward : (m n : HeadStep) (a b : Tree) (ps : List Pair) → Moves s a m → Moves s b n → head_step s a ≡ m → head_step s b ≡ n → Joined s a b → AllJoined s ps → Onward (move_taken m n a b ps)
   unfolding Onward

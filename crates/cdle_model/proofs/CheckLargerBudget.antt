@@ -2,7 +2,7 @@
 use Rattle.std.proofs.Common.{◌≡◌, inl, inr, ℕ, ◌+◌, List, [], ◌∷◌, ◌++◌, length, Option, Some, None, refl, sym, ap, ◌∙◌, subst}
 use Rattle.cdle_model.specs.Trees.{Tree}
 use Rattle.cdle_model.specs.Forms.{Written, name_of}
-use Rattle.cdle_model.specs.Machine.{Outcome, answered, spent}
+use Rattle.cdle_model.specs.Machine.{Budgeted, answered, spent}
 use Rattle.cdle_model.specs.HeadForms.{HeadAnswer, value, no_value, head_form}
 use Rattle.cdle_model.specs.Comparison.{Answer, same, apart, halted, compare}
 use Rattle.cdle_model.specs.Derivation.{bodies, signature}
@@ -16,16 +16,16 @@ Firm (spent_at p) r = Unit {0}
 Firm q r = q ≡ r
 
 -- an answer of the first is one of the second
-abbrev Keeps : {A : Type 0} → Outcome A → Outcome A → Type 0
+abbrev Keeps : {A : Type 0} → Budgeted A → Budgeted A → Type 0
 Keeps {A = A} x y = (z : A) (left : ℕ) → x ≡ answered z left → (more : ℕ) × (y ≡ answered z more)
 
-firm-verdict : (p : List ℕ) (w : Reason) (x y : Outcome Answer) (k l : Finding) → Keeps x y → Firm k l → Firm (by_answer p w x k) (by_answer p w y l)
+firm-verdict : (p : List ℕ) (w : Reason) (x y : Budgeted Answer) (k l : Finding) → Keeps x y → Firm k l → Firm (by_answer p w x k) (by_answer p w y l)
 firm-verdict p w (answered same i) y k l h f = let (j, e) = h same i refl in rw e f
 firm-verdict p w (answered (apart a b) i) y k l h f = let (j, e) = h (apart a b) i refl in rw e refl
 firm-verdict p w (answered (halted z) i) y k l h f = let (j, e) = h (halted z) i refl in rw e refl
 firm-verdict p w spent y k l h f = tt
 
-firm-head : (p : List ℕ) (x y : Outcome HeadAnswer) (k l : Tree → Finding) → Keeps x y → ((a : Tree) → Firm (k a) (l a)) → Firm (by_head p x k) (by_head p y l)
+firm-head : (p : List ℕ) (x y : Budgeted HeadAnswer) (k l : Tree → Finding) → Keeps x y → ((a : Tree) → Firm (k a) (l a)) → Firm (by_head p x k) (by_head p y l)
 firm-head p (answered (value a) i) y k l h f = let (j, e) = h (value a) i refl in rw e (f a)
 firm-head p (answered (no_value z) i) y k l h f = let (j, e) = h (no_value z) i refl in rw e refl
 firm-head p spent y k l h f = tt
@@ -75,7 +75,7 @@ spent-after s n m p (halt z) h = absurd h
 spent-after s n m p (ask_same p' w a b q) (inl h) = (p', ap (λ z. by_answer p' w z (answer s n q)) h.1)
 spent-after s n m p (ask_same p' w a b q) (inr h) = by_compare (spent-after s n m p q h.1) (compare s n a b) (λ z i e. compare_more s n a b z i m e)
   where
-    by_compare : ((p'' : List ℕ) × (answer s n q ≡ spent_at p'')) → (x : Outcome Answer) → ((z : Answer) (i : ℕ) → x ≡ answered z i → compare s (n + m) a b ≡ answered z (i + m))
+    by_compare : ((p'' : List ℕ) × (answer s n q ≡ spent_at p'')) → (x : Budgeted Answer) → ((z : Answer) (i : ℕ) → x ≡ answered z i → compare s (n + m) a b ≡ answered z (i + m))
         → (p'' : List ℕ) × (by_answer p' w x (answer s n q) ≡ spent_at p'')
     by_compare f (answered same i) k = f
     by_compare f (answered (apart c d) i) k = let e : answered same h.0.0 ≡ answered (apart c d) (i + m) = sym h.0.1 ∙ k (apart c d) i refl in absurd cc
@@ -84,7 +84,7 @@ spent-after s n m p (ask_same p' w a b q) (inr h) = by_compare (spent-after s n 
 spent-after s n m p (ask_head p' a k) (inl h) = (p', ap (λ z. by_head p' z (λ b. answer s n (k b))) h.1)
 spent-after s n m p (ask_head p' a k) (inr (b, left, e, h)) = by_head_form (spent-after s n m p (k b) h) (head_form s n a) (λ z i e. head_form_more s n a z i m e)
   where
-    by_head_form : ((p'' : List ℕ) × (answer s n (k b) ≡ spent_at p'')) → (x : Outcome HeadAnswer) → ((z : HeadAnswer) (i : ℕ) → x ≡ answered z i → head_form s (n + m) a ≡ answered z (i + m))
+    by_head_form : ((p'' : List ℕ) × (answer s n (k b) ≡ spent_at p'')) → (x : Budgeted HeadAnswer) → ((z : HeadAnswer) (i : ℕ) → x ≡ answered z i → head_form s (n + m) a ≡ answered z (i + m))
         → (p'' : List ℕ) × (by_head p' x (λ b. answer s n (k b)) ≡ spent_at p'')
     by_head_form f (answered (value c) i) g =
         let j : answered (value b) left ≡ answered (value c) (i + m) = sym e ∙ g (value c) i refl in

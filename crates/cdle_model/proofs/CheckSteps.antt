@@ -4,7 +4,7 @@ use Rattle.cdle_model.specs.Trees.{of_pure, of_term, of_type, Binary, eq_of, Bin
 use Rattle.cdle_model.specs.Forms.{eq}
 use Rattle.cdle_model.specs.Depth.{depth}
 use Rattle.cdle_model.specs.Steps.{end, Joined}
-use Rattle.cdle_model.specs.Machine.{Outcome, answered, spent}
+use Rattle.cdle_model.specs.Machine.{Budgeted, answered, spent}
 use Rattle.cdle_model.specs.HeadForms.{deep, deepest, none, head_step, HeadAnswer, value, no_value, head_form}
 use Rattle.cdle_model.specs.Comparison.{former, binary_head, head_of, function_of, Answer, same, apart, halted, compare}
 use Rattle.cdle_model.specs.Derivation.{Item, bodies}
@@ -113,14 +113,14 @@ module _ (is : List Item) (g' : ClosedItems is) where
   answer-tells n Y N (halt z) h = tt
   answer-tells n Y N (ask_same p w a b q) h = by_compare (λ j. answer-tells n Y N q (h.1 j)) (compare (bodies is) n a b) refl
     where
-      by_compare : (Joined (bodies is) a b → FindingTells Y N (answer (bodies is) n q)) → (z : Outcome Answer) → compare (bodies is) n a b ≡ z → FindingTells Y N (by_answer p w z (answer (bodies is) n q))
+      by_compare : (Joined (bodies is) a b → FindingTells Y N (answer (bodies is) n q)) → (z : Budgeted Answer) → compare (bodies is) n a b ≡ z → FindingTells Y N (by_answer p w z (answer (bodies is) n q))
       by_compare f (answered same left) e = f (compare-joined (bodies is) n a b left e)
       by_compare f (answered (apart c d) left) e = h.0 (compare-apart (bodies is) g'.signed_bodies n a b c d left e)
       by_compare f (answered (halted z) left) e = tt
       by_compare f spent e = tt
   answer-tells n Y N (ask_head p a k) h = by_headed (λ b j e. answer-tells n Y N (k b) (h b j e)) (head_form (bodies is) n a) refl
     where
-      by_headed : ((b : Tree) → Joined (bodies is) a b → head_step (bodies is) b ≡ none → FindingTells Y N (answer (bodies is) n (k b))) → (x : Outcome HeadAnswer) → head_form (bodies is) n a ≡ x → FindingTells Y N (by_head p x (λ b. answer (bodies is) n (k b)))
+      by_headed : ((b : Tree) → Joined (bodies is) a b → head_step (bodies is) b ≡ none → FindingTells Y N (answer (bodies is) n (k b))) → (x : Budgeted HeadAnswer) → head_form (bodies is) n a ≡ x → FindingTells Y N (by_head p x (λ b. answer (bodies is) n (k b)))
       by_headed f (answered (value b) left) e = let (i, j) = head-joins (bodies is) n a b left e in f b i j
       by_headed f (answered (no_value z) left) e = tt
       by_headed f spent e = tt

@@ -7,7 +7,7 @@ use Rattle.cdle_model.specs.Forms.{star, kpi, kpit, pi, all, allt, at_, on, iota
 use Rattle.cdle_model.specs.Depth.{depth}
 use Rattle.cdle_model.specs.Classes.{TreeClass, terms, types, kinds, pure_terms, guides, guide_kinds, within, under, Fits}
 use Rattle.cdle_model.specs.Erasure.{erased, HasErasure}
-use Rattle.cdle_model.specs.Machine.{Outcome, answered, spent}
+use Rattle.cdle_model.specs.Machine.{Budgeted, answered, spent}
 use Rattle.cdle_model.specs.HeadForms.{Halt, deep, deepest, HeadAnswer, value, no_value, head_form}
 use Rattle.cdle_model.specs.Comparison.{Answer, same, apart, halted, compare}
 use Rattle.cdle_model.specs.Derivation.{Entry, term_of, type_of, raised, entry, Item, item, Judgement, a_term, a_type, a_kind, true_pure, false_pure}
@@ -71,14 +71,14 @@ answer-sound zs s w n Y (refuse p u) h = tt
 answer-sound zs s w n Y (halt z) h = h
 answer-sound zs s w n Y (ask_same p u a b q) ((vs, c, e, l, m), h) = by_compare (answer-sound zs s w n Y q h) (compare s n a b) (λ z j i. compare-halts zs s w n vs c a b z j e l m i)
   where
-    by_compare : FindingSound Y (answer s n q) → (x : Outcome Answer) → ((z : Halt) (j : ℕ) → x ≡ answered (halted z) j → z ≡ deep) → FindingSound Y (by_answer p u x (answer s n q))
+    by_compare : FindingSound Y (answer s n q) → (x : Budgeted Answer) → ((z : Halt) (j : ℕ) → x ≡ answered (halted z) j → z ≡ deep) → FindingSound Y (by_answer p u x (answer s n q))
     by_compare f (answered same j) i = f
     by_compare f (answered (apart x y) j) i = tt
     by_compare f (answered (halted z) j) i = i z j refl
     by_compare f spent i = tt
 answer-sound zs s w n Y (ask_head p a k) (vs, c, e, l, h) = by_headed (λ b m. answer-sound zs s w n Y (k b) (h b m)) (head_form s n a) (head-fits zs s w n vs c a e l)
   where
-    by_headed : ((b : Tree) → Fits (within vs zs) c b → FindingSound Y (answer s n (k b))) → (x : Outcome HeadAnswer) → HeadFits zs s w vs c x → FindingSound Y (by_head p x (λ b. answer s n (k b)))
+    by_headed : ((b : Tree) → Fits (within vs zs) c b → FindingSound Y (answer s n (k b))) → (x : Budgeted HeadAnswer) → HeadFits zs s w vs c x → FindingSound Y (by_head p x (λ b. answer s n (k b)))
     by_headed f (answered (value b) j) m = f b m
     by_headed f (answered (no_value z) j) m = m
     by_headed f spent m = tt

@@ -4,7 +4,7 @@ use Rattle.std.proofs.lemmas.List.{append_assoc, append-nil}
 use Rattle.cdle_model.specs.declared.grammar.Sort.{Sort}
 use Rattle.cdle_model.specs.declared.grammar.Sort.TheVariants.{OfTerm, OfType}
 use Rattle.cdle_model.specs.Forms.{Written, def_item, type_item, name_of}
-use Rattle.cdle_model.specs.Classes.{terms, types, kinds, guides, guide_kinds, within, Fits, item_sort, item_sorts, IsOver, AreOver, AreItems}
+use Rattle.cdle_model.specs.Classes.{terms, types, kinds, guides, guide_kinds, within, Fits, item_sort, item_sorts, IsScopedOver, AreScopedOver, AreScoped}
 use Rattle.cdle_model.specs.Erasure.{erased, HasErasure}
 use Rattle.cdle_model.specs.Steps.{IsSignature}
 use Rattle.cdle_model.specs.HeadForms.{Halt, deep}
@@ -52,16 +52,16 @@ sorted-snoc zs is y i l h k n x e = by_cases (get-snoc zs y x n e)
         let e : n ≡ length is = u.0 ∙ l in
         (i, rw e (get-last is i), rw (← u.1) (item-more zs (zs ++ (y ∷ [])) y i (get-left zs (y ∷ [])) k))
 
-item-fits : (zs : List Sort) (es : List Written) (w : Written) → zs ≡ item_sorts es → IsOver es w → ItemHasErasures w → ItemFits zs (item_sort w) (signed w)
+item-fits : (zs : List Sort) (es : List Written) (w : Written) → zs ≡ item_sorts es → IsScopedOver es w → ItemHasErasures w → ItemFits zs (item_sort w) (signed w)
 item-fits zs es (def_item x a t) e h k = rw e (erased-fits (item_sorts es) [] types a h.0 k.0, erased-fits (item_sorts es) [] terms t h.1 k.1)
 item-fits zs es (type_item x l a) e h k = rw e (erased-fits (item_sorts es) [] kinds l h.0 k.0, erased-fits (item_sorts es) [] types a h.1 k.1)
 
-sorted-more : (es : List Written) (w : Written) → AreSorted (item_sorts es) (signature es) → IsOver es w → ItemHasErasures w → AreSorted (item_sorts (es ++ (w ∷ []))) (signature (es ++ (w ∷ [])))
+sorted-more : (es : List Written) (w : Written) → AreSorted (item_sorts es) (signature es) → IsScopedOver es w → ItemHasErasures w → AreSorted (item_sorts (es ++ (w ∷ []))) (signature (es ++ (w ∷ [])))
 sorted-more es w h k l = rw (sorts-snoc es w, signature-snoc es w) (sorted-snoc (item_sorts es) (signature es) (item_sort w) (signed w) (length-sorts es) h (item-fits (item_sorts es) es w refl k l))
 
 -- one item
 module _ (es : List Written) (g : SignatureFits (item_sorts es) (signature es)) where
-  sound-item : (w : Written) → IsOver es w → Sound (item_sorts es) (λ _. ItemHasErasures w) (infer_item (signature es) w)
+  sound-item : (w : Written) → IsScopedOver es w → Sound (item_sorts es) (λ _. ItemHasErasures w) (infer_item (signature es) w)
   sound-item (def_item x a t) h =
       sound-star (item_sorts es) (signature es) g (λ _. ItemHasErasures (def_item x a t)) [] a 1 _ _ (sound (item_sorts es) (signature es) g a_type [] a tt h.0)
       (λ ea. sound-part (item_sorts es) (λ b. HasErasure t × Fits (within [] (item_sorts es)) guides b) (λ _. ItemHasErasures (def_item x a t)) 2 _ _ (sound (item_sorts es) (signature es) g a_term [] t tt h.1)
@@ -71,7 +71,7 @@ module _ (es : List Written) (g : SignatureFits (item_sorts es) (signature es)) 
       (λ s el. sound-part (item_sorts es) (λ b. HasErasure a × Fits (within [] (item_sorts es)) guide_kinds b) (λ _. ItemHasErasures (type_item x l a)) 2 _ _ (sound (item_sorts es) (signature es) g a_type [] a tt h.1)
       (λ b k. sound-same (item_sorts es) (signature es) g [] guide_kinds b (erased l) tt k.1 (erased-fits (item_sorts es) [] kinds l h.0 el.0) (el.0, k.0)))
 
-answered : (es : List Written) (w : Written) (n : ℕ) → SignatureFits (item_sorts es) (signature es) → IsOver es w → FindingSound (λ _. ItemHasErasures w) (check_item n es w)
+answered : (es : List Written) (w : Written) (n : ℕ) → SignatureFits (item_sorts es) (signature es) → IsScopedOver es w → FindingSound (λ _. ItemHasErasures w) (check_item n es w)
 answered es w n g h = answer-sound (item_sorts es) (bodies (signature es)) g.bodies_fit n (λ _. ItemHasErasures w) (infer_item (signature es) w) (sound-item es g w h)
 
 ends-name : (i j : ℕ) (z : Halt) (o : Option ℕ) (v : ListVerdict) → (v ≡ ends j z → z ≡ deep) → by_name i o v ≡ ends j z → z ≡ deep
@@ -84,29 +84,29 @@ ends-finding i j z Y (refused p w) v h k e = absurd (grind arith)
 ends-finding i j z Y (spent_at p) v h k e = absurd (grind arith)
 ends-finding i j z Y (halts y) v h k e = let l : y ≡ z = grind arith in sym l ∙ h
 
-ends-after : (n : ℕ) (es ws : List Written) (j : ℕ) (z : Halt) → AreSorted (item_sorts es) (signature es) → AreOver es ws → check_after n es ws ≡ ends j z → z ≡ deep
+ends-after : (n : ℕ) (es ws : List Written) (j : ℕ) (z : Halt) → AreSorted (item_sorts es) (signature es) → AreScopedOver es ws → check_after n es ws ≡ ends j z → z ≡ deep
 ends-after n es [] j z g h e = absurd (grind arith)
 ends-after n es (w ∷ ws) j z g h e =
     ends-name (length es) j z (first_of (name_of w) es) _
     (ends-finding (length es) j z (ItemHasErasures w) (check_item n es w) _ (answered es w n (sorted-items (item_sorts es) (signature es) g) h.0)
     (λ k. ends-after n (es ++ (w ∷ [])) ws j z (sorted-more es w g h.0 k) h.1)) e
 
-pub list-ends : (ws : List Written) → AreItems ws → (n j : ℕ) (z : Halt) → check_items n ws ≡ ends j z → z ≡ deep
+pub list-ends : (ws : List Written) → AreScoped ws → (n j : ℕ) (z : Halt) → check_items n ws ≡ ends j z → z ≡ deep
 list-ends ws h n j z = ends-after n [] ws j z (λ m x e. absurd (grind arith)) h
 
 -- the signature of a list of items
-sorted-after : (es ws : List Written) → AreSorted (item_sorts es) (signature es) → AreOver es ws → HaveErasures ws → AreSorted (item_sorts (es ++ ws)) (signature (es ++ ws))
+sorted-after : (es ws : List Written) → AreSorted (item_sorts es) (signature es) → AreScopedOver es ws → HaveErasures ws → AreSorted (item_sorts (es ++ ws)) (signature (es ++ ws))
 sorted-after es [] g h k = rw (append-nil es) g
 sorted-after es (w ∷ ws) g h k = subst (λ z. AreSorted (item_sorts z) (signature z)) (append_assoc es (w ∷ []) ws) (sorted-after (es ++ (w ∷ [])) ws (sorted-more es w g h.0 k.0) h.1 k.1)
 
-pub items-fit : (ws : List Written) → AreItems ws → HaveErasures ws → SignatureFits (item_sorts ws) (signature ws)
+pub items-fit : (ws : List Written) → AreScoped ws → HaveErasures ws → SignatureFits (item_sorts ws) (signature ws)
 items-fit ws h k = sorted-items (item_sorts ws) (signature ws) (sorted-after [] ws (λ m x e. absurd (grind arith)) h k)
 
-closed-after : (es ws : List Written) → AreClosed (signature es) → AreOver es ws → AreClosed (signature (es ++ ws))
+pub closed-after : (es ws : List Written) → AreClosed (signature es) → AreScopedOver es ws → AreClosed (signature (es ++ ws))
 closed-after es [] g h = rw (append-nil es) g
 closed-after es (w ∷ ws) g h = subst (λ z. AreClosed (signature z)) (append_assoc es (w ∷ []) ws) (closed-after (es ++ (w ∷ [])) ws (closed-more es w g h.0) h.1)
 
-pub items-signature : (ws : List Written) → AreItems ws → IsSignature (bodies (signature ws))
+pub items-signature : (ws : List Written) → AreScoped ws → IsSignature (bodies (signature ws))
 items-signature ws h = (closed-items (signature ws) (closed-after [] ws closed-none h)).signed_bodies
 
 -- what is accepted has erasures
@@ -120,12 +120,12 @@ accepted-finding i Y Z (refused p w) v h k e = absurd (grind arith)
 accepted-finding i Y Z (spent_at p) v h k e = absurd (grind arith)
 accepted-finding i Y Z (halts y) v h k e = absurd (grind arith)
 
-accepted-after : (n : ℕ) (es ws : List Written) → AreSorted (item_sorts es) (signature es) → AreOver es ws → check_after n es ws ≡ accepts → HaveErasures ws
+accepted-after : (n : ℕ) (es ws : List Written) → AreSorted (item_sorts es) (signature es) → AreScopedOver es ws → check_after n es ws ≡ accepts → HaveErasures ws
 accepted-after n es [] g h e = tt
 accepted-after n es (w ∷ ws) g h e =
     accepted-name (length es) (HaveErasures (w ∷ ws)) (first_of (name_of w) es) _
     (accepted-finding (length es) (ItemHasErasures w) (HaveErasures (w ∷ ws)) (check_item n es w) _ (answered es w n (sorted-items (item_sorts es) (signature es) g) h.0)
     (λ k l. (k, accepted-after n (es ++ (w ∷ [])) ws (sorted-more es w g h.0 k) h.1 l))) e
 
-pub accepted-erasures : (ws : List Written) → AreItems ws → (n : ℕ) → check_items n ws ≡ accepts → HaveErasures ws
+pub accepted-erasures : (ws : List Written) → AreScoped ws → (n : ℕ) → check_items n ws ≡ accepts → HaveErasures ws
 accepted-erasures ws h n = accepted-after n [] ws (λ m x e. absurd (grind arith)) h

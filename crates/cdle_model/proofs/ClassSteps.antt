@@ -5,9 +5,9 @@ use Rattle.cdle_model.specs.declared.grammar.Sort.TheVariants.{OfTerm, OfType}
 use Rattle.cdle_model.specs.Trees.{Function, of_pure, of_term, of_type, Binary, Binder, Tree, var, name, leaf, unary, fun, apply, binary, bind, put}
 use Rattle.cdle_model.specs.Depth.{depth}
 use Rattle.cdle_model.specs.Classes.{TreeClass, pure_terms, guides, guide_kinds, within, fun_places, apply_places, binary_places, bind_places, Fits}
-use Rattle.cdle_model.specs.Machine.{Move, stop, go, Outcome, answered, spent, run}
+use Rattle.cdle_model.specs.Machine.{Move, stop, go, Budgeted, answered, spent, run}
 use Rattle.cdle_model.specs.HeadForms.{Halt, deep, deepest, HeadStep, none, to, blocked, contraction, unfolding_of, step_under, head_step, at, fallen, HeadAnswer, value, no_value, head_move, head_form}
-use Rattle.cdle_model.specs.Comparison.{Head, variable, constant, argument, applied_head, head_of, parts_of, Pair, pairs_of, function_of, applied, Split, into, differ, unsorted, same_heads, against, split_by, split, Answer, halted, State, pairs, taken, past, same_name, move_pairs, move_split, move_taken, move, compare}
+use Rattle.cdle_model.specs.Comparison.{Head, variable, constant, argument, applied_head, head_of, parts_of, Pair, pairs_of, function_of, applied, Split, into, differ, classless, same_heads, against, split_by, split, Answer, halted, State, pairs, taken, past, same_name, move_pairs, move_split, move_taken, move, compare}
 use Rattle.cdle_model.specs.Fitting.{IsErased, class_of, BodiesFit}
 use Rattle.cdle_model.proofs.Placed.{body_to, parts_to, domain_to, body_both, parts_both, domain_both, no_unary, fun_erased, apply_erased, binary_erased, bind_erased}
 use Rattle.cdle_model.proofs.Runs.{stops, spends, goes}
@@ -67,7 +67,7 @@ module _ (zs : List Sort) (s : List Tree) (w : BodiesFit zs s) where
   move-fits vs guide_kinds a g h = tt
   move-fits vs c a g h = absurd g
 
-  abbrev pub HeadFits : List Sort → TreeClass → Outcome HeadAnswer → Type 0
+  abbrev pub HeadFits : List Sort → TreeClass → Budgeted HeadAnswer → Type 0
   HeadFits vs c (answered (value b) left) = Fits (within vs zs) c b
   HeadFits vs c (answered (no_value h) left) = h ≡ deep
   HeadFits vs c spent = Unit {0}
@@ -146,7 +146,7 @@ module _ (zs : List Sort) (s : List Tree) (w : BodiesFit zs s) where
   SplitFits : Split → Type 0
   SplitFits (into qs) = AllFit qs
   SplitFits differ = Unit {0}
-  SplitFits unsorted = ⊥
+  SplitFits classless = ⊥
 
   split-fits : (a b : Tree) → PairFits a b → head_step s a ≡ none → head_step s b ≡ none → SplitFits (split a b)
   unfolding SplitFits
@@ -193,7 +193,7 @@ module _ (zs : List Sort) (s : List Tree) (w : BodiesFit zs s) where
   unfolding NextFits SplitFits
   move_split-fits (into qs) a b ps h k = pairs-fit (qs ++ ps) (all-append PairFits qs ps h k)
   move_split-fits differ a b ps h k = tt
-  move_split-fits unsorted a b ps h k = absurd h
+  move_split-fits classless a b ps h k = absurd h
 
   taken-fits : (vs : List Sort) (c : TreeClass) (m n : HeadStep) (a b : Tree) (ps : List Pair) → IsErased c → Fits (within vs zs) c a → Fits (within vs zs) c b
       → MoveFits vs c m → MoveFits vs c n → head_step s a ≡ m → head_step s b ≡ n → AllFit ps → NextFits (move_taken m n a b ps)

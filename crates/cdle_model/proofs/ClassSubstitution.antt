@@ -16,11 +16,11 @@ use Rattle.cdle_model.proofs.ScopedTrees.{fits-inner}
 abbrev pub Leads : (ℕ → ℕ) → List Sort → List Sort → Type 0
 Leads r vs us = (i : ℕ) (x : Sort) → slice_get vs i ≡ Some x → slice_get us (r i) ≡ Some x
 
-leads-up : (r : ℕ → ℕ) (vs us : List Sort) (y : Sort) → Leads r vs us → Leads (up r) (y ∷ vs) (y ∷ us)
+pub leads-up : (r : ℕ → ℕ) (vs us : List Sort) (y : Sort) → Leads r vs us → Leads (up r) (y ∷ vs) (y ∷ us)
 leads-up r vs us y w zero x e = e
 leads-up r vs us y w (suc i) x e = w i x e
 
-fits-ren : (zs ys : List Sort) → Leads (λ n. n) zs ys → (r : ℕ → ℕ) (vs us : List Sort) → Leads r vs us → (c : TreeClass) (e : Tree) → Fits (within vs zs) c e → Fits (within us ys) c (ren r e)
+pub fits-ren : (zs ys : List Sort) → Leads (λ n. n) zs ys → (r : ℕ → ℕ) (vs us : List Sort) → Leads r vs us → (c : TreeClass) (e : Tree) → Fits (within vs zs) c e → Fits (within us ys) c (ren r e)
 fits-ren zs ys m r vs us w c (var i) h = map_sort c (λ x. w i x) h
 fits-ren zs ys m r vs us w c (name n) h = map_sort c (λ x. m n x) h
 fits-ren zs ys m r vs us w c (leaf l) h = h
@@ -40,18 +40,18 @@ fits-closed zs ys vs m c e h =
     rw (ren-closed (λ i. i) e (fits-inner [] zs c e h).0) at k
 
 -- each variable is replaced by a tree of its sort
-abbrev Gives : List Sort → (ℕ → Tree) → List Sort → List Sort → Type 0
+abbrev pub Gives : List Sort → (ℕ → Tree) → List Sort → List Sort → Type 0
 Gives zs t vs us = (i : ℕ) (x : Sort) → slice_get vs i ≡ Some x → Fits (within us zs) (class_of x) (t i)
 
 gives_new : (zs us : List Sort) (y x : Sort) → Some y ≡ Some x → Fits (within (y ∷ us) zs) (class_of x) (var 0)
 gives_new zs us y OfTerm e = e
 gives_new zs us y OfType e = e
 
-gives-lift : (zs : List Sort) (t : ℕ → Tree) (vs us : List Sort) (y : Sort) → Gives zs t vs us → Gives zs (lift t) (y ∷ vs) (y ∷ us)
+pub gives-lift : (zs : List Sort) (t : ℕ → Tree) (vs us : List Sort) (y : Sort) → Gives zs t vs us → Gives zs (lift t) (y ∷ vs) (y ∷ us)
 gives-lift zs t vs us y w zero x e = gives_new zs us y x e
 gives-lift zs t vs us y w (suc i) x e = fits-ren zs zs (λ n z k. k) suc us (y ∷ us) (λ j z k. k) (class_of x) (t i) (w i x e)
 
-fits-sub : (zs : List Sort) (t : ℕ → Tree) (vs us : List Sort) → Gives zs t vs us → (c : TreeClass) (e : Tree) → IsErased c → Fits (within vs zs) c e → Fits (within us zs) c (sub t e)
+pub fits-sub : (zs : List Sort) (t : ℕ → Tree) (vs us : List Sort) → Gives zs t vs us → (c : TreeClass) (e : Tree) → IsErased c → Fits (within vs zs) c e → Fits (within us zs) c (sub t e)
 fits-sub zs t vs us w c (var i) e h = let (x, k, l) = sort_erased c _ e h in subst (λ z. Fits (within us zs) z (t i)) l (w i x k)
 fits-sub zs t vs us w c (name n) e h = h
 fits-sub zs t vs us w c (leaf l) e h = h
@@ -62,7 +62,7 @@ fits-sub zs t vs us w c (binary j p q) e h = map_parts (binary_places c j) _ _ _
 fits-sub zs t vs us w c (bind f p q) e h =
     map_domain (bind_places c f) _ _ _ _ (λ x k. fits-sub zs t vs us w x p k.0 k.1) (λ v x k. fits-sub zs (lift t) (v ∷ vs) (v ∷ us) (gives-lift zs t vs us v w) x q k.0 k.1) (bind_erased c f _ _ e h)
 
-gives-one : (zs vs : List Sort) (y : Sort) (a : Tree) → Fits (within vs zs) (class_of y) a → Gives zs (one a) (y ∷ vs) vs
+pub gives-one : (zs vs : List Sort) (y : Sort) (a : Tree) → Fits (within vs zs) (class_of y) a → Gives zs (one a) (y ∷ vs) vs
 gives-one zs vs y a h zero x e = let k : y ≡ x = grind arith in rw (← k) h
 gives-one zs vs y a h (suc i) OfTerm e = e
 gives-one zs vs y a h (suc i) OfType e = e

@@ -13,7 +13,7 @@ use Rattle.cdle_model.specs.Trees.{Tree}
 use Rattle.cdle_model.specs.Forms as forms
 use Rattle.cdle_model.specs.Forms.{Written, def_item, type_item, name_of}
 use Rattle.cdle_model.specs.CoreTokens.{Opens, Closes, Word, Token}
-use Rattle.cdle_model.specs.CoreGrammar.{form_of, names_of, pieces, made, look_up, item_words, item_pieces, item_parts, made_item}
+use Rattle.cdle_model.specs.CoreGrammar.{form_of, name_sort, pieces, made, look_up, item_words, item_pieces, item_parts, made_item}
 use Rattle.cdle_model.specs.Classes.{item_sort}
 use Rattle.cdle_model.specs.CoreNames.{Name, Names, behind, stands, same_sort, is_star, with_item, with_items}
 use Rattle.cdle_model.specs.CoreText.{Reads, star, name, form, ReadsPieces, end, bind, part, inner, Stands, ReadsItem, ReadsItems, ReadsFile}
@@ -33,7 +33,7 @@ form_again : (last left at : ℕ) (c : Class) (w : List ℕ) (f : Form) (ts : Li
 unfolding form_at
 form_again last left at c w f ts e = ap (found_form at c ts) e
 
-star_again : (last left at : ℕ) (scope : Names) (c : Class) (w : List ℕ) (ts : List Token) → names_of c ≡ None → is_star w ≡ true → part_at last left scope c ((at, Word w) ∷ ts) ≡ Ok (forms.star, ts)
+star_again : (last left at : ℕ) (scope : Names) (c : Class) (w : List ℕ) (ts : List Token) → name_sort c ≡ None → is_star w ≡ true → part_at last left scope c ((at, Word w) ∷ ts) ≡ Ok (forms.star, ts)
 unfolding part_with leaf
 star_again last left at scope c w ts n e = ap (λ (o : Option Sort). word_with at scope c o w ts) n ∙ rw e refl
 
@@ -41,7 +41,7 @@ sort_again : (s : Sort) → same_sort s s ≡ true
 sort_again OfTerm = refl
 sort_again OfType = refl
 
-word_again : (last left at : ℕ) (scope : Names) (c : Class) (s : Sort) (w : List ℕ) (t : Tree) (ts : List Token) → names_of c ≡ Some s → is_star w ≡ false → stands w scope ≡ Some (s, t)
+word_again : (last left at : ℕ) (scope : Names) (c : Class) (s : Sort) (w : List ℕ) (t : Tree) (ts : List Token) → name_sort c ≡ Some s → is_star w ≡ false → stands w scope ≡ Some (s, t)
     → part_at last left scope c ((at, Word w) ∷ ts) ≡ Ok (t, ts)
 unfolding part_with leaf
 word_again last left at scope c s w t ts n e h = ap (λ (o : Option Sort). word_with at scope c o w ts) n ∙ rw (e, h, sort_again s) refl

@@ -9,9 +9,9 @@ use Rattle.cdle_model.specs.declared.grammar.Piece.{Piece}
 use Rattle.cdle_model.specs.declared.grammar.Piece.TheVariants.{Binder, Part, Under}
 use Rattle.cdle_model.specs.CoreTokens.{Lexeme, Opens, Closes, Word, Token}
 use Rattle.cdle_model.specs.CoreFaults.{Fault, TooDeep, passes_nesting}
-use Rattle.cdle_model.specs.CoreGrammar.{form_of, names_of, pieces, look_up, item_words, item_pieces}
+use Rattle.cdle_model.specs.CoreGrammar.{form_of, name_sort, pieces, look_up, item_words, item_pieces}
 use Rattle.cdle_model.specs.CoreNames.{Name, Names, behind, is_star}
-use Rattle.cdle_model.specs.CoreWants.{Want, TheWord, MoreItems, ItemWord, ItemName, PartOf, FormOf, Binding, Closing, word_of, left_of, Wrong, NotBound, OtherClass, Step, a_word, a_form, an_item, for_pieces, goes_on, act, ended, run, after, start, opened_by, open_behind, IsDeepPlace}
+use Rattle.cdle_model.specs.CoreWants.{Want, TheWord, MoreItems, ItemWord, ItemName, PartOf, FormOf, Binding, Closing, word_of, left_of, Wrong, NotBound, OtherClass, Step, a_word, a_form, an_item, for_pieces, goes_on, act, ended, rest_or_fault, after, start, opened_by, open_behind, IsDeepPlace}
 use Rattle.cdle_model.proofs.CorePrefixes.{front_goes_on}
 
 -- the wants are those of a place where so many parentheses are open
@@ -77,7 +77,7 @@ act_level n (ItemWord known) ws Closes h e = tt
 act_level n (ItemName known s) ws (Word w) h e = rw (h.0, h.1) (if_level 1 [] (is_star w) None _ tt (rw append-nil (pieces_level 0 1023 (behind known) None (item_pieces s) (MoreItems (record { text = w; sort = s } ∷ known) ∷ []) refl (refl, refl))))
 act_level n (ItemName known s) ws Opens h e = tt
 act_level n (ItemName known s) ws Closes h e = tt
-act_level n (PartOf left scope c) ws (Word w) h e = word_level n scope (names_of c) w ws h.1
+act_level n (PartOf left scope c) ws (Word w) h e = word_level n scope (name_sort c) w ws h.1
 act_level n (PartOf zero scope c) ws Opens h e = absurd cc
 act_level n (PartOf (suc left) scope c) ws Opens h e = (omega (arith, h.0), n, omega arith, h.1)
 act_level n (PartOf left scope c) ws Closes h e = tt
@@ -125,8 +125,8 @@ ended_bad end (Binding left scope s ps) at e = cc
 ended_bad end (Closing left) at e = cc
 
 step_deep : (end n : ℕ) (w : Want) (ws : List Want) (t : Token) (ts : List Token) (at : ℕ) (s : Step) → act w t.1 ≡ s → LeavesLevel (opened_by n t.1) ws s
-    → ((next : List Want) → Level (opened_by n t.1) next → run end next ts ≡ Err (TooDeep at) → IsDeepText (opened_by n t.1) next ts at)
-    → goes_on t.0 (word_of w) s (λ front. run end (front ++ ws) ts) ≡ Err (TooDeep at) → IsDeepText n (w ∷ ws) (t ∷ ts) at
+    → ((next : List Want) → Level (opened_by n t.1) next → rest_or_fault end next ts ≡ Err (TooDeep at) → IsDeepText (opened_by n t.1) next ts at)
+    → goes_on t.0 (word_of w) s (λ front. rest_or_fault end (front ++ ws) ts) ≡ Err (TooDeep at) → IsDeepText n (w ∷ ws) (t ∷ ts) at
 step_deep end n w ws t ts at None e l ih h = absurd cc
 step_deep end n w ws t ts at (Some (next, None)) e l ih h = one_more n w ws t ts next None at e (ih (next ++ ws) l h)
 step_deep end n w ws t ts at (Some (next, Some NotBound)) e l ih h = absurd cc
@@ -157,15 +157,15 @@ deep_step : (end n : ℕ) (w : Want) (ws : List Want) (t : Token) (ts : List Tok
 deep_step end n w ws t ts at true next h g e = h refl e
 deep_step end n w ws t ts at false next h g e = g refl e
 
-deep_text : (end n : ℕ) (ws : List Want) (ts : List Token) (at : ℕ) → Level n ws → run end ws ts ≡ Err (TooDeep at) → IsDeepText n ws ts at
-unfolding run after
+deep_text : (end n : ℕ) (ws : List Want) (ts : List Token) (at : ℕ) → Level n ws → rest_or_fault end ws ts ≡ Err (TooDeep at) → IsDeepText n ws ts at
+unfolding rest_or_fault after
 deep_text end n [] ts at l e = absurd l
 deep_text end n (w ∷ ws) [] at l e = absurd (ended_bad end w at e)
 deep_text end n (w ∷ ws) (t ∷ ts) at l e =
     deep_step end n w ws t ts at (passes_nesting (left_of w) t.1) _ (λ p h. deep_here n w ws t ts at (level_left n w ws l) p h)
     (λ p h. step_deep end n w ws t ts at (act w t.1) refl (act_level n w ws t.1 l p) (λ next k g. deep_text end (opened_by n t.1) next ts at k g) h) e
 
-pub deep_place : (end : ℕ) (known : List Name) (ts : List Token) (at : ℕ) → run end (start known) ts ≡ Err (TooDeep at) → IsDeepPlace ts at
+pub deep_place : (end : ℕ) (known : List Name) (ts : List Token) (at : ℕ) → rest_or_fault end (start known) ts ≡ Err (TooDeep at) → IsDeepPlace ts at
 deep_place end known ts at e =
     let d = deep_text end 0 (start known) ts at (refl, (refl, (refl, refl))) e in
     record { front = d.front; others = d.others; parts = d.parts; goes_on = front_goes_on known d.front d.mid d.wanted; full = d.full }

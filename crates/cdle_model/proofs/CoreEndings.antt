@@ -10,8 +10,8 @@ use Rattle.cdle_model.specs.declared.grammar.Piece.{Piece}
 use Rattle.cdle_model.specs.declared.grammar.Piece.TheVariants.{Binder, Part, Under}
 use Rattle.cdle_model.specs.declared.grammar.CoreWanted.{CoreWanted}
 use Rattle.cdle_model.specs.CoreTokens.{Lexeme, Opens, Closes, Word, Token}
-use Rattle.cdle_model.specs.CoreGrammar.{form_of, names_of, pieces, look_up, item_words, item_pieces}
-use Rattle.cdle_model.specs.CoreNames.{Name, Names, under, behind, is_star}
+use Rattle.cdle_model.specs.CoreGrammar.{form_of, name_sort, pieces, look_up, item_words, item_pieces}
+use Rattle.cdle_model.specs.CoreNames.{Name, Names, names_under, behind, is_star}
 use Rattle.cdle_model.specs.declared.grammar.Class.TheVariants.{Kind, Ty, Term, Pure, Guide, GuideKind}
 use Rattle.cdle_model.specs.declared.grammar.Form.TheVariants.{Kpit, On, Fst, Ap, GuideOn, GuideKpit}
 use Rattle.cdle_model.specs.CoreWants.{Want, TheWord, MoreItems, ItemWord, ItemName, PartOf, FormOf, Binding, Closing, Step, a_word, a_form, opening, an_item, for_pieces, taken, act, after}
@@ -47,7 +47,7 @@ unfolding after act
 pieces_end left scope binder [] ws = refl
 pieces_end left scope binder (Binder s ∷ ps) ws = pieces_end left scope (Some (record { text = codes "x"; sort = s })) ps ws
 pieces_end left scope binder (Part c ∷ ps) ws = part_ends left scope c (for_pieces left scope binder ps ++ ws) (end_pieces ps) ∙ pieces_end left scope binder ps ws
-pieces_end left scope binder (Under c ∷ ps) ws = part_ends left (under binder scope) c (for_pieces left scope binder ps ++ ws) (end_pieces ps) ∙ pieces_end left scope binder ps ws
+pieces_end left scope binder (Under c ∷ ps) ws = part_ends left (names_under binder scope) c (for_pieces left scope binder ps ++ ws) (end_pieces ps) ∙ pieces_end left scope binder ps ws
 
 -- the wants end in items
 abbrev pub Fit : List Want → Type 0
@@ -73,7 +73,7 @@ unfolding after act
 append_pieces left scope binder [] ws r = refl
 append_pieces left scope binder (Binder s ∷ ps) ws r = append_pieces left scope (Some (record { text = codes "x"; sort = s })) ps ws r
 append_pieces left scope binder (Part c ∷ ps) ws r = part_ends left scope c (for_pieces left scope binder ps ++ ws) (end_pieces ps ++ r) ∙ append_pieces left scope binder ps ws r
-append_pieces left scope binder (Under c ∷ ps) ws r = part_ends left (under binder scope) c (for_pieces left scope binder ps ++ ws) (end_pieces ps ++ r) ∙ append_pieces left scope binder ps ws r
+append_pieces left scope binder (Under c ∷ ps) ws r = part_ends left (names_under binder scope) c (for_pieces left scope binder ps ++ ws) (end_pieces ps ++ r) ∙ append_pieces left scope binder ps ws r
 
 -- what goes on from a form's opening to its end
 form_end : Class → List Token
@@ -166,7 +166,7 @@ act_fit (ItemName known OfTerm) ws (Word w) f = if_fit ws (is_star w) None _ tt 
 act_fit (ItemName known OfType) ws (Word w) f = if_fit ws (is_star w) None _ tt f
 act_fit (ItemName known s) ws Opens f = tt
 act_fit (ItemName known s) ws Closes f = tt
-act_fit (PartOf left scope c) ws (Word w) f = word_fit scope (names_of c) w ws f
+act_fit (PartOf left scope c) ws (Word w) f = word_fit scope (name_sort c) w ws f
 act_fit (PartOf left scope c) ws Opens f = opening_fit left scope c ws f
 act_fit (PartOf left scope c) ws Closes f = tt
 act_fit (FormOf left scope c) ws (Word w) f = form_fit left scope (form_of c w) ws f

@@ -13,9 +13,9 @@ use Rattle.cdle_model.specs.Trees.{Tree}
 use Rattle.cdle_model.specs.Forms as forms
 use Rattle.cdle_model.specs.Forms.{Written, name_of}
 use Rattle.cdle_model.specs.CoreTokens.{Lexeme, Opens, Closes, Word, Token}
-use Rattle.cdle_model.specs.CoreGrammar.{form_of, names_of, pieces, look_up, item_words, item_pieces, made_item}
+use Rattle.cdle_model.specs.CoreGrammar.{form_of, name_sort, pieces, look_up, item_words, item_pieces, made_item}
 use Rattle.cdle_model.specs.Classes.{item_sort}
-use Rattle.cdle_model.specs.CoreNames.{Name, Names, under, behind, stands, is_star, with_item, with_items}
+use Rattle.cdle_model.specs.CoreNames.{Name, Names, names_under, behind, stands, is_star, with_item, with_items}
 use Rattle.std.proofs.Common.{◌≤◌, ◌+◌, arith}
 use Rattle.std.proofs.lemmas.List.{append-nil}
 use Rattle.cdle_model.specs.CoreWants.{Want, TheWord, MoreItems, ItemWord, ItemName, PartOf, FormOf, Binding, Closing, Wrong, Step, complaint, a_word, a_form, opening, an_item, for_pieces, taken, act, after, start}
@@ -24,11 +24,11 @@ use Rattle.cdle_model.proofs.CoreReads.{item_made}
 
 -- ---- a text is taken to its end
 
-star_after : (left at : ℕ) (scope : Names) (c : Class) (w : List ℕ) (ws : List Want) (ts : List Token) → names_of c ≡ None → is_star w ≡ true → after (PartOf left scope c ∷ ws) ((at, Word w) ∷ ts) ≡ after ws ts
+star_after : (left at : ℕ) (scope : Names) (c : Class) (w : List ℕ) (ws : List Want) (ts : List Token) → name_sort c ≡ None → is_star w ≡ true → after (PartOf left scope c ∷ ws) ((at, Word w) ∷ ts) ≡ after ws ts
 unfolding after act
 star_after left at scope c w ws ts n e = ap (λ (o : Option Sort). taken (a_word scope o w) (λ front. after (front ++ ws) ts)) n ∙ rw e refl
 
-name_after : (left at : ℕ) (scope : Names) (c : Class) (s : Sort) (w : List ℕ) (ws : List Want) (ts : List Token) → names_of c ≡ Some s → is_star w ≡ false → after (PartOf left scope c ∷ ws) ((at, Word w) ∷ ts) ≡ after ws ts
+name_after : (left at : ℕ) (scope : Names) (c : Class) (s : Sort) (w : List ℕ) (ws : List Want) (ts : List Token) → name_sort c ≡ Some s → is_star w ≡ false → after (PartOf left scope c ∷ ws) ((at, Word w) ∷ ts) ≡ after ws ts
 unfolding after act
 name_after left at scope c s w ws ts n e = ap (λ (o : Option Sort). taken (a_word scope o w) (λ front. after (front ++ ws) ts)) n ∙ rw e refl
 
@@ -63,7 +63,7 @@ mutual
   pieces_after end left scope binder ws = refl
   pieces_after (bind {s = s} {ps = ps} {at = at} {w = w} {ts = ts} e h) left scope binder ws = binder_after left at scope s ps w ws ts e ∙ pieces_after h left scope (Some (record { text = w; sort = s })) ws
   pieces_after (part {ps = ps} h g) left scope binder ws = part_after h left scope (for_pieces left scope binder ps ++ ws) ∙ pieces_after g left scope binder ws
-  pieces_after (inner {ps = ps} h g) left scope binder ws = part_after h left (under binder scope) (for_pieces left scope binder ps ++ ws) ∙ pieces_after g left scope binder ws
+  pieces_after (inner {ps = ps} h g) left scope binder ws = part_after h left (names_under binder scope) (for_pieces left scope binder ps ++ ws) ∙ pieces_after g left scope binder ws
 
 item_open_after : (at : ℕ) (known : List Name) (ts : List Token) → after (MoreItems known ∷ []) ((at, Opens) ∷ ts) ≡ after (ItemWord known ∷ []) ts
 unfolding after act
@@ -212,7 +212,7 @@ unless_next : (test : Bool) (ns next : List Want) (a b : Option Wrong) → cond 
 unless_next true ns next a b e = absurd cc
 unless_next false ns next a b e = (refl, next_is ns next a b e)
 
-a_word_fills : (left at : ℕ) (scope : Names) (c : Class) (w : List ℕ) (ws : List Want) (ts : List Token) (next : List Want) (wrong : Option Wrong) (o : Option Sort) → names_of c ≡ o
+a_word_fills : (left at : ℕ) (scope : Names) (c : Class) (w : List ℕ) (ws : List Want) (ts : List Token) (next : List Want) (wrong : Option Wrong) (o : Option Sort) → name_sort c ≡ o
     → a_word scope o w ≡ some_step next wrong → Fills (next ++ ws) ts → Fills (PartOf left scope c ∷ ws) ((at, Word w) ∷ ts)
 a_word_fills left at scope c w ws ts next wrong None n e h =
     let k = if_next (is_star w) [] next None wrong e in
@@ -265,7 +265,7 @@ step_fills (ItemName known s) ws at (Word w) ts next wrong e h =
     item_name_fills at known s w ws ts k.0 (rw k.1 at h)
 step_fills (ItemName known s) ws at Opens ts next wrong e h = absurd cc
 step_fills (ItemName known s) ws at Closes ts next wrong e h = absurd cc
-step_fills (PartOf left scope c) ws at (Word w) ts next wrong e h = a_word_fills left at scope c w ws ts next wrong (names_of c) refl e h
+step_fills (PartOf left scope c) ws at (Word w) ts next wrong e h = a_word_fills left at scope c w ws ts next wrong (name_sort c) refl e h
 step_fills (PartOf left scope c) ws at Opens ts next wrong e h = opening_fills left at scope c ws ts (rw (next_is (opening left scope c) next None wrong e) at h)
 step_fills (PartOf left scope c) ws at Closes ts next wrong e h = absurd cc
 step_fills (FormOf left scope c) ws at (Word w) ts next wrong e h = a_form_fills left at scope c w ws ts next wrong (form_of c w) refl e h

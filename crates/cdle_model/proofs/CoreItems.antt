@@ -13,10 +13,10 @@ use Rattle.cdle_model.specs.declared.grammar.Piece.TheVariants.{Binder, Part, Un
 use Rattle.cdle_model.specs.Trees.{Tree, var, name}
 use Rattle.cdle_model.specs.Forms as forms
 use Rattle.cdle_model.specs.Forms.{Written, def_item, type_item}
-use Rattle.cdle_model.specs.Classes.{TreeClass, kinds, types, terms, pure_terms, guides, guide_kinds, AsSort, Scope, within, HasVariable, HasName, Fits, item_sort, item_sorts, IsOver, AreOver}
+use Rattle.cdle_model.specs.Classes.{TreeClass, kinds, types, terms, pure_terms, guides, guide_kinds, AsSort, Scope, within, HasVariable, HasName, Fits, item_sort, item_sorts, IsScopedOver, AreScopedOver}
 use Rattle.cdle_model.specs.CoreTokens.{Token}
-use Rattle.cdle_model.specs.CoreGrammar.{names_of, form_words, pieces, class_of_form, made, look_up, item_pieces}
-use Rattle.cdle_model.specs.CoreNames.{Name, Names, under, behind, binder_of, item_of, or_else, stands, with_item, with_items}
+use Rattle.cdle_model.specs.CoreGrammar.{name_sort, form_words, pieces, class_of_form, made, look_up, item_pieces}
+use Rattle.cdle_model.specs.CoreNames.{Name, Names, names_under, behind, binder_of, item_of, or_else, stands, with_item, with_items}
 use Rattle.cdle_model.specs.CoreText.{Reads, star, name as by_name, form, ReadsPieces, end, bind, part, inner, Stands, ReadsItem, ReadsItems, ReadsFile}
 use Rattle.cdle_model.proofs.Lists.{get-left, get-last, sorts-snoc}
 
@@ -82,7 +82,7 @@ abbrev IsRead : Names → Class → Tree → Type 0
 IsRead scope c t = Fits (scope_of scope) (class_in c) t
 
 -- the names of a class are of its sort
-as_sort : (c : Class) (s : Sort) (P : Sort → Type 0) → names_of c ≡ Some s → P s → AsSort (class_in c) P
+as_sort : (c : Class) (s : Sort) (P : Sort → Type 0) → name_sort c ≡ Some s → P s → AsSort (class_in c) P
 as_sort Kind s P e h = absurd cc
 as_sort Ty s P e h = let same : s ≡ OfType = cc in subst P same h
 as_sort Term s P e h = let same : s ≡ OfTerm = cc in subst P same h
@@ -90,7 +90,7 @@ as_sort Pure s P e h = let same : s ≡ OfTerm = cc in subst P same h
 as_sort Guide s P e h = let same : s ≡ OfType = cc in subst P same h
 as_sort GuideKind s P e h = absurd cc
 
-word_read : (scope : Names) (c : Class) (s : Sort) (w : List ℕ) (t : Tree) → names_of c ≡ Some s → stands w scope ≡ found s t → IsRead scope c t
+word_read : (scope : Names) (c : Class) (s : Sort) (w : List ℕ) (t : Tree) → name_sort c ≡ Some s → stands w scope ≡ found s t → IsRead scope c t
 unfolding stands
 word_read scope c s w t n e = of_binder (binder_of w 0 scope.binders) refl e
   where
@@ -101,7 +101,7 @@ word_read scope c s w t n e = of_binder (binder_of w 0 scope.binders) refl e
         let same : var (0 + h.0) ≡ var h.0 = ap var (omega arith) in
         subst (IsRead scope c) (sym (h.1 ∙ same)) (as_sort c s (HasVariable (scope_of scope) h.0) n h.2)
 
-star_read : (scope : Names) (c : Class) → names_of c ≡ None → IsRead scope c forms.star
+star_read : (scope : Names) (c : Class) → name_sort c ≡ None → IsRead scope c forms.star
 star_read scope Kind e = tt
 star_read scope Ty e = absurd cc
 star_read scope Term e = absurd cc
@@ -116,14 +116,14 @@ abbrev ArePartsRead : Names → Option Name → List Piece → List Tree → Typ
 ArePartsRead scope binder [] us = us ≡ []
 ArePartsRead scope binder (Binder s ∷ ps) us = (w : List ℕ) × ArePartsRead scope (Some (record { text = w; sort = s })) ps us
 ArePartsRead scope binder (Part c ∷ ps) us = (t : Tree) × (ts : List Tree) × (us ≡ t ∷ ts) × IsRead scope c t × ArePartsRead scope binder ps ts
-ArePartsRead scope binder (Under c ∷ ps) us = (t : Tree) × (ts : List Tree) × (us ≡ t ∷ ts) × IsRead (under binder scope) c t × ArePartsRead scope binder ps ts
+ArePartsRead scope binder (Under c ∷ ps) us = (t : Tree) × (ts : List Tree) × (us ≡ t ∷ ts) × IsRead (names_under binder scope) c t × ArePartsRead scope binder ps ts
 
 -- a list of parts has the property, whatever parts these pieces are read as
 abbrev Holds : (List Tree → Type 0) → Names → Option Name → List Piece → Type 0
 Holds P scope binder [] = P []
 Holds P scope binder (Binder s ∷ ps) = (w : List ℕ) → Holds P scope (Some (record { text = w; sort = s })) ps
 Holds P scope binder (Part c ∷ ps) = (t : Tree) → IsRead scope c t → Holds (λ us. P (t ∷ us)) scope binder ps
-Holds P scope binder (Under c ∷ ps) = (t : Tree) → IsRead (under binder scope) c t → Holds (λ us. P (t ∷ us)) scope binder ps
+Holds P scope binder (Under c ∷ ps) = (t : Tree) → IsRead (names_under binder scope) c t → Holds (λ us. P (t ∷ us)) scope binder ps
 
 parts_hold : (scope : Names) (binder : Option Name) (ps : List Piece) (us : List Tree) → ArePartsRead scope binder ps us → (P : List Tree → Type 0) → Holds P scope binder ps → P us
 parts_hold scope binder [] us h P f = subst P (sym h) f
@@ -188,7 +188,7 @@ row_or_later : (c : Class) (g f : Form) (o : Option Form) → class_of_form g �
 row_or_later c g f o here others true e = let same : g ≡ f = cc in ap class_of_form (sym same) ∙ here
 row_or_later c g f o here others false e = others e
 
-row_class : (c : Class) (w : List ℕ) (es : List (List ℕ × Form)) (f : Form) → AreOfClass c es → look_up w es ≡ Some f → class_of_form f ≡ c
+pub row_class : (c : Class) (w : List ℕ) (es : List (List ℕ × Form)) (f : Form) → AreOfClass c es → look_up w es ≡ Some f → class_of_form f ≡ c
 row_class c w [] f all e = absurd cc
 row_class c w (x ∷ es) f all e = row_or_later c x.1 f (look_up w es) all.0 (row_class c w es f all.1) (bytes_eq w x.0) e
 
@@ -224,25 +224,25 @@ abbrev AreTwo : (Tree → Tree → Type 0) → List Tree → Type 0
 AreTwo P (a ∷ b ∷ []) = P a b
 AreTwo P us = ⊥
 
-item_read : (left : ℕ) (known : List Name) (ts : List Token) (i : Written) (rest : List Token) (es : List Written) → AreOf known es → ReadsItem Stands left known ts i rest → IsOver es i
+item_read : (left : ℕ) (known : List Name) (ts : List Token) (i : Written) (rest : List Token) (es : List Written) → AreOf known es → ReadsItem Stands left known ts i rest → IsScopedOver es i
 item_read left known ts (def_item x a t) rest es e h =
     subst (λ (xs : List Sort). Fits (within [] xs) types a × Fits (within [] xs) terms t) e (parts_hold (behind known) None (item_pieces OfTerm) (a ∷ t ∷ []) (parts_read h.parts) (AreTwo (λ b u. IsRead (behind known) Ty b × IsRead (behind known) Term u)) (λ b p u q. (p, q)))
 item_read left known ts (type_item x k a) rest es e h =
     subst (λ (xs : List Sort). Fits (within [] xs) kinds k × Fits (within [] xs) types a) e (parts_hold (behind known) None (item_pieces OfType) (k ∷ a ∷ []) (parts_read h.parts) (AreTwo (λ l b. IsRead (behind known) Kind l × IsRead (behind known) Ty b)) (λ l p b q. (p, q)))
 
-items_read : (left : ℕ) (known : List Name) (ts : List Token) (es ws : List Written) → AreOf known es → ReadsItems Stands left known ts ws → AreOver es ws
+items_read : (left : ℕ) (known : List Name) (ts : List Token) (es ws : List Written) → AreOf known es → ReadsItems Stands left known ts ws → AreScopedOver es ws
 items_read left known ts es [] e h = tt
 items_read left known ts es (w ∷ ws) e h = (item_read left known ts w h.0 es e h.1, items_read left (with_item w known) h.0 (es ++ (w ∷ [])) ws (with_item_of known es w e) h.2)
 
 -- what a text says behind items is over these
-pub file_read : (left : ℕ) (ts : List Token) (es ws : List Written) → ReadsFile Stands left (with_items es []) ts ws → AreOver es ws
+pub file_read : (left : ℕ) (ts : List Token) (es ws : List Written) → ReadsFile Stands left (with_items es []) ts ws → AreScopedOver es ws
 file_read left ts es ws h = items_read left (with_items es []) h.body es ws (with_items_of [] [] es refl) h.items
 
 -- ---- lists of items behind each other
 
-pub over_both : (front es ws : List Written) → AreOver front es → AreOver (front ++ es) ws → AreOver front (es ++ ws)
-over_both front [] ws h g = subst (λ (vs : List Written). AreOver vs ws) (append-nil front) g
-over_both front (e ∷ es) ws h g = (h.0, over_both (front ++ (e ∷ [])) es ws h.1 (subst (λ (vs : List Written). AreOver vs ws) (sym (append_assoc front (e ∷ []) es)) g))
+pub over_both : (front es ws : List Written) → AreScopedOver front es → AreScopedOver (front ++ es) ws → AreScopedOver front (es ++ ws)
+over_both front [] ws h g = subst (λ (vs : List Written). AreScopedOver vs ws) (append-nil front) g
+over_both front (e ∷ es) ws h g = (h.0, over_both (front ++ (e ∷ [])) es ws h.1 (subst (λ (vs : List Written). AreScopedOver vs ws) (sym (append_assoc front (e ∷ []) es)) g))
 
 pub names_both : (es ws : List Written) (known : List Name) → with_items (es ++ ws) known ≡ with_items ws (with_items es known)
 names_both [] ws known = refl

@@ -4,7 +4,7 @@ use Rattle.cdle_model.specs.declared.grammar.CoreWanted.{CoreWanted}
 use Rattle.cdle_model.specs.CoreTokens.{Token}
 use Rattle.cdle_model.specs.CoreFaults.{Fault, BadText, TooDeep, passes_nesting}
 use Rattle.cdle_model.specs.CoreNames.{Name}
-use Rattle.cdle_model.specs.CoreWants.{Want, TheWord, MoreItems, ItemWord, ItemName, PartOf, FormOf, Binding, Closing, word_of, left_of, Wrong, NotBound, OtherClass, Step, goes_on, taken, act, ended, run, after, start, place, CanGoOn, NoneGoesOn, IsFirstBadPlace}
+use Rattle.cdle_model.specs.CoreWants.{Want, TheWord, MoreItems, ItemWord, ItemName, PartOf, FormOf, Binding, Closing, word_of, left_of, Wrong, NotBound, OtherClass, Step, goes_on, taken, act, ended, rest_or_fault, after, start, place, CanGoOn, NoneGoesOn, IsFirstBadPlace}
 use Rattle.cdle_model.proofs.CoreEndings.{Fit, can_end, fit_after}
 use Rattle.cdle_model.proofs.CoreFree.{text_whole, whole_text}
 
@@ -52,8 +52,8 @@ step_stops (Binding left scope s ps) t ts e = e
 step_stops (Closing left) t ts e = e
 
 step_bad : (end : ℕ) (w : Want) (ws : List Want) (t : Token) (ts : List Token) (at : ℕ) (what : CoreWanted) (s : Step) → act w t.1 ≡ s
-    → ((next : List Want) → run end next ts ≡ Err (BadText at what) → IsBadText end next ts at what)
-    → goes_on t.0 (word_of w) s (λ front. run end (front ++ ws) ts) ≡ Err (BadText at what) → IsBadText end (w ∷ ws) (t ∷ ts) at what
+    → ((next : List Want) → rest_or_fault end next ts ≡ Err (BadText at what) → IsBadText end next ts at what)
+    → goes_on t.0 (word_of w) s (λ front. rest_or_fault end (front ++ ws) ts) ≡ Err (BadText at what) → IsBadText end (w ∷ ws) (t ∷ ts) at what
 unfolding after
 step_bad end w ws t ts at what None e ih h = record { front = []; others = t ∷ ts; parts = refl; want = w; wants = ws; wanted = refl; word = cc; here = cc; stops = step_stops w t ts e }
 step_bad end w ws t ts at what (Some (next, None)) e ih h = one_more end w ws t ts next None at what e (ih (next ++ ws) h)
@@ -79,8 +79,8 @@ bad_step : (end : ℕ) (w : Want) (ws : List Want) (t : Token) (ts : List Token)
 bad_step end w ws t ts at what true next h e = absurd cc
 bad_step end w ws t ts at what false next h e = h e
 
-bad_is_first : (end : ℕ) (ws : List Want) (ts : List Token) (at : ℕ) (what : CoreWanted) → run end ws ts ≡ Err (BadText at what) → IsBadText end ws ts at what
-unfolding run after
+bad_is_first : (end : ℕ) (ws : List Want) (ts : List Token) (at : ℕ) (what : CoreWanted) → rest_or_fault end ws ts ≡ Err (BadText at what) → IsBadText end ws ts at what
+unfolding rest_or_fault after
 bad_is_first end [] ts at what e = absurd cc
 bad_is_first end (w ∷ ws) [] at what e = end_bad end w ws at what e
 bad_is_first end (w ∷ ws) (t ∷ ts) at what e = bad_step end w ws t ts at what (passes_nesting (left_of w) t.1) _ (λ h. step_bad end w ws t ts at what (act w t.1) refl (λ next g. bad_is_first end next ts at what g) h) e
@@ -139,7 +139,7 @@ front_goes_on known front mid e =
     let more = goes_on_to_whole (start known) front mid refl e in
     (more.0, whole_text known more.1 (front ++ more.0) more.2)
 
-pub bad_place : (end : ℕ) (known : List Name) (ts : List Token) (at : ℕ) (what : CoreWanted) → run end (start known) ts ≡ Err (BadText at what) → IsFirstBadPlace end known ts at what
+pub bad_place : (end : ℕ) (known : List Name) (ts : List Token) (at : ℕ) (what : CoreWanted) → rest_or_fault end (start known) ts ≡ Err (BadText at what) → IsFirstBadPlace end known ts at what
 bad_place end known ts at what e =
     let b = bad_is_first end (start known) ts at what e in
     record {

@@ -15,9 +15,9 @@ use Rattle.cdle_model.specs.Forms as forms
 use Rattle.cdle_model.specs.Forms.{Written, name_of}
 use Rattle.cdle_model.specs.CoreTokens.{Opens, Closes, Word, Token}
 use Rattle.cdle_model.specs.CoreFaults.{Fault, BadText, WrongClass}
-use Rattle.cdle_model.specs.CoreGrammar.{form_of, names_of, pieces, made, look_up, item_words, item_pieces, item_parts, made_item}
+use Rattle.cdle_model.specs.CoreGrammar.{form_of, name_sort, pieces, made, look_up, item_words, item_pieces, item_parts, made_item}
 use Rattle.cdle_model.specs.Classes.{item_sort}
-use Rattle.cdle_model.specs.CoreNames.{Name, Names, under, behind, stands, same_sort, is_star, with_item}
+use Rattle.cdle_model.specs.CoreNames.{Name, Names, names_under, behind, stands, same_sort, is_star, with_item}
 use Rattle.cdle_model.specs.CoreText.{Meaning, Reads, star, name, form, ReadsPieces, end, bind, part, inner, Stands, ReadsItem, ReadsItems, ReadsFile}
 use Rattle.cdle_model.specs.CoreReading.{◌>>=◌, Read, Reader, name_at, close_at, found_form, form_at, known, word_with, leaf, pieces_with, part_with, form_with, inside, part_at, open_at, found_sort, sort_at, item_at, word_at, head_at, Items}
 
@@ -78,7 +78,7 @@ known_reads at s ts (Some y) x e =
 failed : ℕ → CoreWanted → Read Tree
 failed at what = Err (BadText at what)
 
-word_reads : (at left : ℕ) (scope : Names) (c : Class) (w : List ℕ) (ts : List Token) (x : Tree × List Token) (o : Option Sort) (b : Bool) → names_of c ≡ o → is_star w ≡ b
+word_reads : (at left : ℕ) (scope : Names) (c : Class) (w : List ℕ) (ts : List Token) (x : Tree × List Token) (o : Option Sort) (b : Bool) → name_sort c ≡ o → is_star w ≡ b
     → word_with at scope c o w ts ≡ Ok x → Reads Stands left scope c ((at, Word w) ∷ ts) x.0 x.1
 word_reads at left scope c w ts x None true n b e = let same : (forms.star, ts) ≡ x = cc in subst (λ (y : Tree × List Token). Reads Stands left scope c ((at, Word w) ∷ ts) y.0 y.1) same (star n b)
 word_reads at left scope c w ts x None false n b e = absurd cc
@@ -106,10 +106,10 @@ pieces_read last left read right scope binder (Part c ∷ ps) ts x e =
     let same : (a.0.0 ∷ b.0.0, b.0.1) ≡ x = let h = b.2 in cc in
     subst (λ (y : List Tree × List Token). ReadsPieces Stands left scope binder (Part c ∷ ps) ts y.0 y.1) same (part (right scope c ts a.0 a.1) (pieces_read last left read right scope binder ps a.0.1 b.0 b.1))
 pieces_read last left read right scope binder (Under c ∷ ps) ts x e =
-    let a = bind_ok (read (under binder scope) c ts) (λ t. pieces_with read last left scope binder ps t.1 >>= λ us. Ok (t.0 ∷ us.0, us.1)) x e in
+    let a = bind_ok (read (names_under binder scope) c ts) (λ t. pieces_with read last left scope binder ps t.1 >>= λ us. Ok (t.0 ∷ us.0, us.1)) x e in
     let b = bind_ok (pieces_with read last left scope binder ps a.0.1) (λ us. Ok (a.0.0 ∷ us.0, us.1)) x a.2 in
     let same : (a.0.0 ∷ b.0.0, b.0.1) ≡ x = let h = b.2 in cc in
-    subst (λ (y : List Tree × List Token). ReadsPieces Stands left scope binder (Under c ∷ ps) ts y.0 y.1) same (inner (right (under binder scope) c ts a.0 a.1) (pieces_read last left read right scope binder ps a.0.1 b.0 b.1))
+    subst (λ (y : List Tree × List Token). ReadsPieces Stands left scope binder (Under c ∷ ps) ts y.0 y.1) same (inner (right (names_under binder scope) c ts a.0 a.1) (pieces_read last left read right scope binder ps a.0.1 b.0 b.1))
 
 form_read : (last left at : ℕ) (read : Reader) → IsRight left read → (scope : Names) (c : Class) (ts : List Token) (x : Tree × List Token)
     → form_with read last left scope c ts ≡ Ok x → Reads Stands (suc left) scope c ((at, Opens) ∷ ts) x.0 x.1
@@ -128,7 +128,7 @@ form_read last left at read right scope c ts x e =
 part_reads : (last left : ℕ) → IsRight left (part_at last left)
 unfolding part_with inside leaf
 part_reads last left scope c [] x e = absurd cc
-part_reads last left scope c ((at, Word w) ∷ ts) x e = word_reads at left scope c w ts x (names_of c) (is_star w) refl refl e
+part_reads last left scope c ((at, Word w) ∷ ts) x e = word_reads at left scope c w ts x (name_sort c) (is_star w) refl refl e
 part_reads last left scope c ((at, Closes) ∷ ts) x e = absurd cc
 part_reads last zero scope c ((at, Opens) ∷ ts) x e = absurd cc
 part_reads last (suc left) scope c ((at, Opens) ∷ ts) x e = form_read last left at (part_at last left) (part_reads last left) scope c ts x e

@@ -3,7 +3,7 @@ use Rattle.std.proofs.Common.{◌≡◌, ℕ, zero, suc, ◌+◌, List, [], ◌�
 use Rattle.std.proofs.lemmas.List.{length-append}
 use Rattle.cdle_model.specs.Trees.{Tree}
 use Rattle.cdle_model.specs.Forms.{star, Written, def_item, type_item, name_of}
-use Rattle.cdle_model.specs.Classes.{AreOver, AreItems}
+use Rattle.cdle_model.specs.Classes.{AreScopedOver, AreScoped}
 use Rattle.cdle_model.specs.Erasure.{erased}
 use Rattle.cdle_model.specs.Steps.{Joined}
 use Rattle.cdle_model.specs.Derivation.{Item, bodies, Judgement, a_term, a_type, a_kind, Has, converted, signature, IsNew, HasItem, DerivedAfter, AreDerived}
@@ -66,7 +66,7 @@ told-finding es ws w (refused p r) v x h k = (zero, grind arith, λ l. h l.1)
 told-finding es ws w (spent_at p) v x h k = tt
 told-finding es ws w (halts z) v x h k = tt
 
-told-after : (n : ℕ) (es ws : List Written) → AreClosed (signature es) → AreOver es ws → ListTold es ws (check_after n es ws)
+told-after : (n : ℕ) (es ws : List Written) → AreClosed (signature es) → AreScopedOver es ws → ListTold es ws (check_after n es ws)
 told-after n es [] g h = tt
 told-after n es (w ∷ ws) g h = by_new (λ x. told-after n (es ++ (w ∷ [])) ws x h.1) (first_of (name_of w) es) (name-tells (name_of w) es)
   where
@@ -76,14 +76,14 @@ told-after n es (w ∷ ws) g h = by_new (λ x. told-after n (es ++ (w ∷ [])) w
         (answer-tells (signature es) (closed-items (signature es) g) n (λ _. HasItem (signature es) w) (HasItem (signature es) w → ⊥) (infer_item (signature es) w) (told-item (signature es) (closed-items (signature es) g) w))
         (f (closed-more es w g h.0))
 
-pub accepted-derived : (ws : List Written) → AreItems ws → (n : ℕ) → check_items n ws ≡ accepts → AreDerived ws
+pub accepted-derived : (ws : List Written) → AreScoped ws → (n : ℕ) → check_items n ws ≡ accepts → AreDerived ws
 accepted-derived ws h n e = subst (ListTold [] ws) e (told-after n [] ws closed-none h)
 
 up-to : (ws : List Written) (i : ℕ) → Lost [] ws i → AreDerived (take (suc i) ws) → ⊥
 up-to ws i (k, e, lost) = let j : i ≡ k = e ∙ grind arith in rw j lost
 
-pub refused-lost : (ws : List Written) → AreItems ws → (n i : ℕ) (p : List ℕ) (w : Reason) → check_items n ws ≡ refuses i p w → AreDerived (take (suc i) ws) → ⊥
+pub refused-lost : (ws : List Written) → AreScoped ws → (n i : ℕ) (p : List ℕ) (w : Reason) → check_items n ws ≡ refuses i p w → AreDerived (take (suc i) ws) → ⊥
 refused-lost ws h n i p w e = up-to ws i (subst (ListTold [] ws) e (told-after n [] ws closed-none h))
 
-pub duplicate-lost : (ws : List Written) → AreItems ws → (n i j : ℕ) → check_items n ws ≡ duplicate i j → AreDerived (take (suc i) ws) → ⊥
+pub duplicate-lost : (ws : List Written) → AreScoped ws → (n i j : ℕ) → check_items n ws ≡ duplicate i j → AreDerived (take (suc i) ws) → ⊥
 duplicate-lost ws h n i j e = up-to ws i (subst (ListTold [] ws) e (told-after n [] ws closed-none h))

@@ -4,6 +4,7 @@ pub mod Trees
 pub mod Bounds
 pub mod Placed
 pub mod Scoping
+pub mod CoreForms
 pub mod CoreItems
 pub mod CoreReads
 pub mod CoreAgain
@@ -49,4 +50,5 @@ pub mod ClassSteps
 pub mod ClassChecked
 pub mod ClassItems
 pub mod ClassKept
+pub mod ClassJoined
 pub mod Examples

@@ -26,7 +26,7 @@ renamed-up r (type_of a) = ap type_of (shift-one (ren r a) ∙ sym (ren-up-suc r
 abbrev pub Renames : (ℕ → ℕ) → List Entry → List Entry → Type 0
 Renames r c d = (i : ℕ) (e : Entry) → entry c i ≡ Some e → entry d (r i) ≡ Some (renamed r e)
 
-up-renames : (r : ℕ → ℕ) (c d : List Entry) (e : Entry) → Renames r c d → Renames (up r) (e ∷ c) (renamed r e ∷ d)
+pub up-renames : (r : ℕ → ℕ) (c d : List Entry) (e : Entry) → Renames r c d → Renames (up r) (e ∷ c) (renamed r e ∷ d)
 up-renames r c d e w zero f h = let k : raised e ≡ f = grind arith in rw (← k) (ap Some (renamed-up r e))
 up-renames r c d e w (suc i) f h =
     let (m, p, q) = raised-from (entry c i) f h in
@@ -59,7 +59,7 @@ module _ (is : List Item) (g : ClosedItems is) where
     rule-ren r w (fst_rule h) = fst_rule (has-ren r w h)
     rule-ren r w (snd_rule {t = t} {b = b} h) = rw (ren-put r (erased t) b, ← erased-ren r t) (snd_rule (has-ren r w h))
     rule-ren r w beta_rule = beta_rule
-    rule-ren {d = d} r w (rho_rule {q = q} {g = b} {a = a} {t = t} {x = x} {y = y} h k l p) =
+    rule-ren {d = d} r w (rho_rule {q = q} {g = b} {a = a} {t = t} {l = x} {r = y} h k l p) =
         rw (← erased-ren r a) (rho_rule (has-ren r w h) (has-ren r w k) (rw (← erased-ren r a, ren-put r x b) at (joined-ren r l)) (rw (ren-put r y b) at (has-ren {d = d} r w p)))
     rule-ren r w (phi_rule {t = t} h k l p) = phi_rule (has-ren r w h) (has-ren r w k) (rw (← erased-ren r t) at (joined-ren r l)) (joined-ren r p)
     rule-ren r w (delta_rule {a = a} h k l p) = rw (← erased-ren r a) (delta_rule (has-ren r w h) (has-ren r w k) (joined-ren r l) (joined-ren r p))

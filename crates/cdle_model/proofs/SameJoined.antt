@@ -5,7 +5,7 @@ use Rattle.cdle_model.specs.Steps.{contract, unfold_name, here, in_head, Step, J
 use Rattle.cdle_model.specs.Machine.{Move, stop, go, answered, spent, run}
 use Rattle.cdle_model.specs.Depth.{depth}
 use Rattle.cdle_model.specs.HeadForms.{deep, deepest, HeadStep, none, to, blocked, contraction, unfolding_of, step_under, if_same, ill_applied, head_step, at, fallen, value, no_value, head_move, head_form}
-use Rattle.cdle_model.specs.Comparison.{Pair, Split, into, differ, unsorted, split, Answer, same, State, pairs, taken, past, same_name, move_pairs, move_split, move_taken, move, compare}
+use Rattle.cdle_model.specs.Comparison.{Pair, Split, into, differ, classless, split, Answer, same, State, pairs, taken, past, same_name, move_pairs, move_split, move_taken, move, compare}
 use Rattle.cdle_model.proofs.Rewriting.{linked-join}
 use Rattle.cdle_model.proofs.Runs.{stops, goes}
 use Rattle.cdle_model.proofs.HeadParts.{AllJoined, split-joined}
@@ -86,7 +86,7 @@ joined-append s (p ∷ ps) qs h = let (x, y) = joined-append s ps qs h.1 in ((h.
 split-good : (s : List Tree) (o : Split) (a b : Tree) (ps : List Pair) → split a b ≡ o → After s (move_split o a b ps) → Joined s a b × AllJoined s ps
 split-good s (into qs) a b ps e h = let (x, y) = joined-append s qs ps (pairs-good s (qs ++ ps) h) in (split-joined s a b qs e x, y)
 split-good s differ a b ps e h = absurd h
-split-good s unsorted a b ps e h = absurd h
+split-good s classless a b ps e h = absurd h
 
 taken-good : (s : List Tree) (m n : HeadStep) (a b : Tree) (ps : List Pair) → Moves s a m → Moves s b n → After s (move_taken m n a b ps) → Joined s a b × AllJoined s ps
 taken-good s (to a') n a b ps i j h = (forth i h.0, h.1)

@@ -2,7 +2,7 @@
 use Rattle.std.proofs.Common.{◌≡◌, ◌⊎◌, inl, inr, ℕ, zero, suc, List, [], ◌∷◌, ◌++◌, length, Option, Some, None, slice_get, option_map, refl, subst, arith}
 use Rattle.cdle_model.specs.Trees.{Tree, IsBelow, NamesBelow}
 use Rattle.cdle_model.specs.Forms.{Written, def_item, type_item}
-use Rattle.cdle_model.specs.Classes.{TreeClass, terms, types, kinds, within, Fits, item_sorts, IsOver}
+use Rattle.cdle_model.specs.Classes.{TreeClass, terms, types, kinds, within, Fits, item_sorts, IsScopedOver}
 use Rattle.cdle_model.specs.Erasure.{erased}
 use Rattle.cdle_model.specs.Steps.{IsSignature}
 use Rattle.cdle_model.specs.Derivation.{Entry, term_of, type_of, Item, bodies, item, signed, signature}
@@ -55,11 +55,11 @@ closed-snoc is i h k n j e = by_cases (get-snoc is i j n e)
 closed-tree : (es : List Written) (c : TreeClass) (t : Tree) → Fits (within [] (item_sorts es)) c t → Inner 0 (length (signature es)) (erased t)
 closed-tree es c t h = rw (← length-sorts es) (erased-inner 0 (length (item_sorts es)) t (fits-inner [] (item_sorts es) c t h))
 
-closed-written : (es : List Written) (w : Written) → IsOver es w → IsClosedItem (length (signature es)) (signed w)
+closed-written : (es : List Written) (w : Written) → IsScopedOver es w → IsClosedItem (length (signature es)) (signed w)
 closed-written es (def_item x a t) h = ((closed-tree es types a h.0).0, closed-tree es terms t h.1)
 closed-written es (type_item x k a) h = ((closed-tree es kinds k h.0).0, closed-tree es types a h.1)
 
-pub closed-more : (es : List Written) (w : Written) → AreClosed (signature es) → IsOver es w → AreClosed (signature (es ++ (w ∷ [])))
+pub closed-more : (es : List Written) (w : Written) → AreClosed (signature es) → IsScopedOver es w → AreClosed (signature (es ++ (w ∷ [])))
 closed-more es w h k = rw (signature-snoc es w) (closed-snoc (signature es) (signed w) h (closed-written es w k))
 
 pub closed-none : AreClosed []

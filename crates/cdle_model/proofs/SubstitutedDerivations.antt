@@ -41,7 +41,7 @@ raised-renamed : (e : Entry) → raised e ≡ renamed suc e
 raised-renamed (term_of a) = ap term_of (shift-one a)
 raised-renamed (type_of a) = ap type_of (shift-one a)
 
-renames-suc : (d : List Entry) (e : Entry) → Renames suc d (e ∷ d)
+pub renames-suc : (d : List Entry) (e : Entry) → Renames suc d (e ∷ d)
 renames-suc d e i f h = ap (option_map raised) h ∙ ap Some (raised-renamed f)
 
 module _ (is : List Item) (g : ClosedItems is) where
@@ -53,7 +53,7 @@ module _ (is : List Item) (g : ClosedItems is) where
   given-new d (term_of a) s = by_rule (var_term (ap (λ x. Some (term_of x)) (sym (put-raised s a))))
   given-new d (type_of a) s = by_rule (var_type (ap (λ x. Some (type_of x)) (sym (put-raised s a))))
 
-  lift-puts : (s : ℕ → Tree) (c d : List Entry) (e : Entry) → Puts is s c d → Puts is (lift s) (e ∷ c) (put_entry s e ∷ d)
+  pub lift-puts : (s : ℕ → Tree) (c d : List Entry) (e : Entry) → Puts is s c d → Puts is (lift s) (e ∷ c) (put_entry s e ∷ d)
   lift-puts s c d e w zero f h = let k : raised e ≡ f = grind arith in rw (← k) (given-new d e s)
   lift-puts s c d e w (suc i) f h =
       let (m, p, q) = raised-from (entry c i) f h in
@@ -62,7 +62,7 @@ module _ (is : List Item) (g : ClosedItems is) where
   joined-erasures : (s : ℕ → Tree) {p q : Tree} → Joined (bodies is) p q → Joined (bodies is) (sub (erasures s) p) (sub (erasures s) q)
   joined-erasures s h = linked-map (sub (erasures s)) (λ _ _. step-sub (bodies is) g.signed_bodies (erasures s)) h
 
-  lacks-put : (s : ℕ → Tree) (t : Tree) → lacks 0 (erased t) ≡ true → lacks 0 (erased (sub_written (lift s) t)) ≡ true
+  pub lacks-put : (s : ℕ → Tree) (t : Tree) → lacks 0 (erased t) ≡ true → lacks 0 (erased (sub_written (lift s) t)) ≡ true
   lacks-put s t h = ap (lacks 0) (erased-sub (lift s) t ∙ sub-erasures-lift s (erased t)) ∙ lacks-sub (erasures s) (erased t) h
 
   mutual
@@ -96,7 +96,7 @@ module _ (is : List Item) (g : ClosedItems is) where
         rw (sub-put (erasures s) (erased t) b, ← erased-sub s t) (by_rule (snd_rule (has-sub s w h)))
     rule-sub s w beta_rule =
         by_rule (beta_rule)
-    rule-sub {d = d} s w (rho_rule {q = q} {g = b} {a = a} {t = t} {x = x} {y = y} h k l p) =
+    rule-sub {d = d} s w (rho_rule {q = q} {g = b} {a = a} {t = t} {l = x} {r = y} h k l p) =
         rw (← erased-sub s a) (by_rule (rho_rule (has-sub s w h) (has-sub s w k) (rw (← erased-sub s a, sub-put (erasures s) x b) at (joined-erasures s l)) (rw (sub-put (erasures s) y b) at (has-sub {d = d} s w p))))
     rule-sub s w (phi_rule {t = t} h k l p) =
         by_rule (phi_rule (has-sub s w h) (has-sub s w k) (rw (← erased-sub s t) at (joined-erasures s l)) (joined-erasures s p))
@@ -137,7 +137,7 @@ under-var e = ap (λ s. sub_written s e) (fun_ext lift-var)
 under-sub_var : (e : Tree) → sub (lift var) e ≡ e
 under-sub_var e = sub-same lift-var e ∙ sub-var e
 
-sub_written-var : (e : Tree) → sub_written var e ≡ e
+pub sub_written-var : (e : Tree) → sub_written var e ≡ e
 sub_written-var (var i) = refl
 sub_written-var (name n) = refl
 sub_written-var (leaf l) = refl

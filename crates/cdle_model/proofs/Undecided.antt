@@ -2,7 +2,7 @@
 use Rattle.std.proofs.Common.{◌≡◌, inl, inr, ℕ, ◌+◌, List, [], ◌∷◌, ◌++◌, length, Option, Some, None, refl, ap, ◌∙◌, arith}
 use Rattle.cdle_model.specs.Trees.{Tree}
 use Rattle.cdle_model.specs.Forms.{Written, name_of}
-use Rattle.cdle_model.specs.Machine.{Outcome, answered, spent}
+use Rattle.cdle_model.specs.Machine.{Budgeted, answered, spent}
 use Rattle.cdle_model.specs.HeadForms.{HeadAnswer, value, no_value, head_form}
 use Rattle.cdle_model.specs.Comparison.{Answer, same, apart, halted, compare}
 use Rattle.cdle_model.specs.Derivation.{bodies, signature}
@@ -40,14 +40,14 @@ spent-question s n p (refuse p' w) e = absurd (grind arith)
 spent-question s n p (halt z) e = absurd (grind arith)
 spent-question s n p (ask_same p' w a b q) e = by_compare (spent-question s n p q) (compare s n a b) refl e
   where
-    by_compare : (answer s n q ≡ spent_at p → SpentAfter s n n p q) → (x : Outcome Answer) → compare s n a b ≡ x → by_answer p' w x (answer s n q) ≡ spent_at p → SpentAfter s n n p (ask_same p' w a b q)
+    by_compare : (answer s n q ≡ spent_at p → SpentAfter s n n p q) → (x : Budgeted Answer) → compare s n a b ≡ x → by_answer p' w x (answer s n q) ≡ spent_at p → SpentAfter s n n p (ask_same p' w a b q)
     by_compare f (answered same l) i e = inr ((l, i), f e)
     by_compare f (answered (apart c d) l) i e = absurd (grind arith)
     by_compare f (answered (halted z) l) i e = absurd (grind arith)
     by_compare f spent i e = let k : p' ≡ p = grind arith in inl (k, i)
 spent-question s n p (ask_head p' a k) e = by_headed (λ b. spent-question s n p (k b)) (head_form s n a) refl e
   where
-    by_headed : ((b : Tree) → answer s n (k b) ≡ spent_at p → SpentAfter s n n p (k b)) → (x : Outcome HeadAnswer) → head_form s n a ≡ x → by_head p' x (λ b. answer s n (k b)) ≡ spent_at p → SpentAfter s n n p (ask_head p' a k)
+    by_headed : ((b : Tree) → answer s n (k b) ≡ spent_at p → SpentAfter s n n p (k b)) → (x : Budgeted HeadAnswer) → head_form s n a ≡ x → by_head p' x (λ b. answer s n (k b)) ≡ spent_at p → SpentAfter s n n p (ask_head p' a k)
     by_headed f (answered (value b) l) i e = inr (b, l, i, f b e)
     by_headed f (answered (no_value z) l) i e = absurd (grind arith)
     by_headed f spent i e = let j : p' ≡ p = grind arith in inl (j, i)

@@ -4,7 +4,7 @@ use Rattle.cdle_model.specs.Trees.{of_pure, Binder, Binder-discrete, pi_of, all_
 use Rattle.cdle_model.specs.Forms.{star, kpi, kpit, pi, all, allt, tlam, xtlam, at_, on, iota, eq, lam, elam, xlam, app, eapp, tapp, pair, fst, snd, beta, rho, phi, delta, Written, def_item, type_item, name_of}
 use Rattle.cdle_model.specs.Depth.{depth}
 use Rattle.cdle_model.specs.Erasure.{erased}
-use Rattle.cdle_model.specs.Machine.{Outcome, answered, spent}
+use Rattle.cdle_model.specs.Machine.{Budgeted, answered, spent}
 use Rattle.cdle_model.specs.HeadForms.{Halt, deep, ill_classed, deepest, HeadAnswer, value, no_value, head_form}
 use Rattle.cdle_model.specs.Comparison.{Answer, same, apart, halted, compare}
 use Rattle.cdle_model.specs.Derivation.{Entry, term_of, type_of, entry, Item, bodies, item, Judgement, a_term, a_type, a_kind, true_pure, false_pure, signature}
@@ -103,13 +103,13 @@ module _ (is : List Item) where
   infer a_term c (pair t u b) = at_part 1 (infer a_term c t) (λ a. star_then 3 (infer a_type (term_of a ∷ c) b)
       (at_part 2 (infer a_term c u) (λ d. unless_deep (put 0 (erased t) (erased b)) (ask_same (2 ∷ []) (mismatch d (put 0 (erased t) (erased b))) d (put 0 (erased t) (erased b))
       (ask_same [] (parts_differ (erased t) (erased u)) (erased t) (erased u) (limited (iota a (erased b))))))))
-  infer a_term c (rho q g a t) = equation_then 1 (infer a_term c q) (λ x y. star_then 3 (infer a_type c a)
-      (unless_deep (put 0 x g) (ask_same [] (sides_differ (erased a) (put 0 x g)) (erased a) (put 0 x g)
-      (at_part 4 (infer a_term c t) (λ d. unless_deep (put 0 y g) (ask_same (4 ∷ []) (mismatch d (put 0 y g)) d (put 0 y g) (limited (erased a))))))))
-  infer a_term c (phi q t p) = equation_then 1 (infer a_term c q) (λ x y. at_part 2 (infer a_term c t) (λ a.
-      ask_same [] (sides_differ (eq x x) (eq (erased t) (erased t))) x (erased t) (ask_same [] (sides_differ (eq y y) (eq p p)) y p (limited a))))
-  infer a_term c (delta a q) = star_then 1 (infer a_type c a) (equation_then 2 (infer a_term c q) (λ x y.
-      ask_same [] (not_booleans x y) x true_pure (ask_same [] (not_booleans x y) y false_pure (limited (erased a)))))
+  infer a_term c (rho q g a t) = equation_then 1 (infer a_term c q) (λ l r. star_then 3 (infer a_type c a)
+      (unless_deep (put 0 l g) (ask_same [] (sides_differ (erased a) (put 0 l g)) (erased a) (put 0 l g)
+      (at_part 4 (infer a_term c t) (λ d. unless_deep (put 0 r g) (ask_same (4 ∷ []) (mismatch d (put 0 r g)) d (put 0 r g) (limited (erased a))))))))
+  infer a_term c (phi q t p) = equation_then 1 (infer a_term c q) (λ l r. at_part 2 (infer a_term c t) (λ a.
+      ask_same [] (sides_differ (eq l l) (eq (erased t) (erased t))) l (erased t) (ask_same [] (sides_differ (eq r r) (eq p p)) r p (limited a))))
+  infer a_term c (delta a q) = star_then 1 (infer a_type c a) (equation_then 2 (infer a_term c q) (λ l r.
+      ask_same [] (not_booleans l r) l true_pure (ask_same [] (not_booleans l r) r false_pure (limited (erased a)))))
   -- types
   infer a_type c (var i) = found a_type (entry c i)
   infer a_type c (name m) = found a_type (item is m)
@@ -143,13 +143,13 @@ pub data Finding : Type 0 where
   halts : Halt → Finding
 
 -- the answers, each question with n units of its own
-abbrev pub by_answer : List ℕ → Reason → Outcome Answer → Finding → Finding
+abbrev pub by_answer : List ℕ → Reason → Budgeted Answer → Finding → Finding
 by_answer p w (answered same left) r = r
 by_answer p w (answered (apart a b) left) r = refused p w
 by_answer p w (answered (halted h) left) r = halts h
 by_answer p w spent r = spent_at p
 
-abbrev pub by_head : List ℕ → Outcome HeadAnswer → (Tree → Finding) → Finding
+abbrev pub by_head : List ℕ → Budgeted HeadAnswer → (Tree → Finding) → Finding
 by_head p (answered (value a) left) k = k a
 by_head p (answered (no_value h) left) k = halts h
 by_head p spent k = spent_at p

@@ -157,15 +157,15 @@ item_sorts [] = []
 item_sorts (w ∷ ws) = item_sort w ∷ item_sorts ws
 
 -- an item is closed, over the earlier items alone, with each variable and name used in its class
-abbrev pub IsOver : List Written → Written → Type 0
-IsOver es (def_item x a t) = Fits (within [] (item_sorts es)) types a × Fits (within [] (item_sorts es)) terms t
-IsOver es (type_item x k a) = Fits (within [] (item_sorts es)) kinds k × Fits (within [] (item_sorts es)) types a
+abbrev pub IsScopedOver : List Written → Written → Type 0
+IsScopedOver es (def_item x a t) = Fits (within [] (item_sorts es)) types a × Fits (within [] (item_sorts es)) terms t
+IsScopedOver es (type_item x k a) = Fits (within [] (item_sorts es)) kinds k × Fits (within [] (item_sorts es)) types a
 
 -- each item of the second list is over those of the first and those before it
-abbrev pub AreOver : List Written → List Written → Type 0
-AreOver es [] = Unit {0}
-AreOver es (w ∷ ws) = IsOver es w × AreOver (es ++ (w ∷ [])) ws
+abbrev pub AreScopedOver : List Written → List Written → Type 0
+AreScopedOver es [] = Unit {0}
+AreScopedOver es (w ∷ ws) = IsScopedOver es w × AreScopedOver (es ++ (w ∷ [])) ws
 
 -- a list of items as a reader gives it
-abbrev pub AreItems : List Written → Type 0
-AreItems = AreOver []
+abbrev pub AreScoped : List Written → Type 0
+AreScoped = AreScopedOver []

@@ -2,7 +2,7 @@
 use Rattle.std.specs.Prelude.{ℕ, eqb, cond, Bool, false, List, [], ◌∷◌, ◌++◌, Option, Some, None}
 use native.Mathlib.Decide.{ℕ_discrete}
 use Rattle.cdle_model.specs.Trees.{Function, of_pure, Function-discrete, Leaf, Leaf-discrete, Unary, Unary-discrete, Binary, Binary-discrete, Binder, Binder-discrete, Tree, var, name, leaf, unary, fun, apply, binary, bind, shift}
-use Rattle.cdle_model.specs.Machine.{Move, stop, go, Outcome, run}
+use Rattle.cdle_model.specs.Machine.{Move, stop, go, Budgeted, run}
 use Rattle.cdle_model.specs.HeadForms.{Halt, ill_classed, HeadStep, none, to, blocked, head_step}
 
 -- what a head form has at its head: a variable with the classes of its arguments, or a former
@@ -76,7 +76,7 @@ applied p = apply of_pure (shift 0 1 p) (var 0)
 pub data Split : Type 0 where
   into : List Pair → Split
   differ : Split
-  unsorted : Split
+  classless : Split
 
 -- the pairs where the heads are one
 abbrev pub same_heads : Head → Head → List Pair → Split
@@ -87,7 +87,7 @@ abbrev pub against : Head → List Pair → Split
 against (variable i) qs = into qs
 against (constant n) qs = into qs
 against (argument c h) qs = into qs
-against h qs = unsorted
+against h qs = classless
 
 abbrev pub split_by : Option Tree → Option Tree → Tree → Tree → Split
 split_by (Some p) (Some q) a b = into ((p, q) ∷ [])
@@ -128,7 +128,7 @@ move_pairs (p ∷ ps) = go (take_pair p.0 p.1 ps)
 abbrev pub move_split : Split → Tree → Tree → List Pair → Move Answer State
 move_split (into qs) a b ps = move_pairs (qs ++ ps)
 move_split differ a b ps = stop (apart a b)
-move_split unsorted a b ps = stop (halted ill_classed)
+move_split classless a b ps = stop (halted ill_classed)
 
 -- the left is brought to head form, and then the right
 abbrev pub move_taken : HeadStep → HeadStep → Tree → Tree → List Pair → Move Answer State
@@ -144,5 +144,5 @@ move s (taken a b ps) = move_taken (head_step s a) (head_step s b) a b ps
 move s (past h) = stop (halted h)
 
 -- the comparison of a and b, left and right, with n units
-abbrev pub compare : List Tree → ℕ → Tree → Tree → Outcome Answer
+abbrev pub compare : List Tree → ℕ → Tree → Tree → Budgeted Answer
 compare s n a b = run (move s) n (pairs ((a, b) ∷ []))

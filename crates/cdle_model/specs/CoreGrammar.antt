@@ -2,6 +2,7 @@
 use Rattle.std.specs.Prelude.{ℕ, List, [], ◌∷◌, if◌then◌else◌, codes, Option, Some, None}
 use Rattle.std.specs.Str.{bytes_eq}
 use Rattle.cdle_model.specs.Trees.{Tree}
+use Rattle.cdle_model.specs.Classes.{TreeClass, terms, types, kinds, pure_terms, guides, guide_kinds}
 use Rattle.cdle_model.specs.Forms.{star, kpi, kpit, pi, all, allt, at_, on, iota, eq, tlam, xtlam, guide_tlam, guide_xtlam, fn, ap, lam, elam, xlam, app, eapp, tapp, pair, fst, snd, beta, rho, phi, delta, Written, def_item, type_item}
 use Rattle.cdle_model.specs.declared.grammar.Sort.{Sort}
 use Rattle.cdle_model.specs.declared.grammar.Sort.TheVariants.{OfTerm, OfType}
@@ -30,13 +31,13 @@ abbrev pub form_of : Class → List ℕ → Option Form
 form_of c w = look_up w (form_words c)
 
 -- what a name stands for where a part of that class is wanted; the other classes have `*` in the names' place
-abbrev pub names_of : Class → Option Sort
-names_of Kind = None
-names_of Ty = Some OfType
-names_of Term = Some OfTerm
-names_of Pure = Some OfTerm
-names_of Guide = Some OfType
-names_of GuideKind = None
+abbrev pub name_sort : Class → Option Sort
+name_sort Kind = None
+name_sort Ty = Some OfType
+name_sort Term = Some OfTerm
+name_sort Pure = Some OfTerm
+name_sort Guide = Some OfType
+name_sort GuideKind = None
 
 -- what stands in a form, behind its word
 abbrev pub pieces : Form → List Piece
@@ -165,6 +166,65 @@ made GuideEq (a ∷ b ∷ []) = eq a b
 made GuideKpi (a ∷ b ∷ []) = kpi a b
 made GuideKpit (a ∷ b ∷ []) = kpit a b
 made f ts = star
+
+-- which class of trees a class of text is
+abbrev pub class_in : Class → TreeClass
+class_in Kind = kinds
+class_in Ty = types
+class_in Term = terms
+class_in Pure = pure_terms
+class_in Guide = guides
+class_in GuideKind = guide_kinds
+
+-- a form with the word by which it is written, and its parts in written order
+pub record Shape : Type 0 where
+  pub word : List ℕ
+  pub form : Form
+  pub parts : List Tree
+
+abbrev pub shape : List ℕ → Form → List Tree → Option Shape
+shape w f us = Some (record { word = w; form = f; parts = us })
+
+-- the form of that class that a tree is, which is the inverse of `made`; a variable, a name and `*` are none
+abbrev pub form_in : Class → Tree → Option Shape
+form_in Kind (kpi a b) = shape (codes "kpi") Kpi (a ∷ b ∷ [])
+form_in Kind (kpit a b) = shape (codes "kpit") Kpit (a ∷ b ∷ [])
+form_in Ty (pi a b) = shape (codes "pi") Pi (a ∷ b ∷ [])
+form_in Ty (all a b) = shape (codes "all") All (a ∷ b ∷ [])
+form_in Ty (allt a b) = shape (codes "allt") Allt (a ∷ b ∷ [])
+form_in Ty (tlam a b) = shape (codes "tlam") Tlam (a ∷ b ∷ [])
+form_in Ty (xtlam a b) = shape (codes "xtlam") Xtlam (a ∷ b ∷ [])
+form_in Ty (at_ a b) = shape (codes "at") At (a ∷ b ∷ [])
+form_in Ty (on a b) = shape (codes "on") On (a ∷ b ∷ [])
+form_in Ty (iota a b) = shape (codes "iota") Iota (a ∷ b ∷ [])
+form_in Ty (eq a b) = shape (codes "eq") Eq (a ∷ b ∷ [])
+form_in Term (lam a b) = shape (codes "lam") Lam (a ∷ b ∷ [])
+form_in Term (elam a b) = shape (codes "elam") Elam (a ∷ b ∷ [])
+form_in Term (xlam a b) = shape (codes "xlam") Xlam (a ∷ b ∷ [])
+form_in Term (app a b) = shape (codes "app") App (a ∷ b ∷ [])
+form_in Term (eapp a b) = shape (codes "eapp") Eapp (a ∷ b ∷ [])
+form_in Term (tapp a b) = shape (codes "tapp") Tapp (a ∷ b ∷ [])
+form_in Term (pair a b c) = shape (codes "pair") Pair (a ∷ b ∷ c ∷ [])
+form_in Term (fst a) = shape (codes "fst") Fst (a ∷ [])
+form_in Term (snd a) = shape (codes "snd") Snd (a ∷ [])
+form_in Term (beta a b) = shape (codes "beta") Beta (a ∷ b ∷ [])
+form_in Term (rho a b c d) = shape (codes "rho") Rho (a ∷ b ∷ c ∷ d ∷ [])
+form_in Term (phi a b c) = shape (codes "phi") Phi (a ∷ b ∷ c ∷ [])
+form_in Term (delta a b) = shape (codes "delta") Delta (a ∷ b ∷ [])
+form_in Pure (fn a) = shape (codes "fn") Function (a ∷ [])
+form_in Pure (ap a b) = shape (codes "ap") Ap (a ∷ b ∷ [])
+form_in Guide (pi a b) = shape (codes "pi") GuidePi (a ∷ b ∷ [])
+form_in Guide (all a b) = shape (codes "all") GuideAll (a ∷ b ∷ [])
+form_in Guide (allt a b) = shape (codes "allt") GuideAllt (a ∷ b ∷ [])
+form_in Guide (guide_tlam a) = shape (codes "tlam") GuideTlam (a ∷ [])
+form_in Guide (guide_xtlam a) = shape (codes "xtlam") GuideXtlam (a ∷ [])
+form_in Guide (at_ a b) = shape (codes "at") GuideAt (a ∷ b ∷ [])
+form_in Guide (on a b) = shape (codes "on") GuideOn (a ∷ b ∷ [])
+form_in Guide (iota a b) = shape (codes "iota") GuideIota (a ∷ b ∷ [])
+form_in Guide (eq a b) = shape (codes "eq") GuideEq (a ∷ b ∷ [])
+form_in GuideKind (kpi a b) = shape (codes "kpi") GuideKpi (a ∷ b ∷ [])
+form_in GuideKind (kpit a b) = shape (codes "kpit") GuideKpit (a ∷ b ∷ [])
+form_in c t = None
 
 -- ---- items
 

@@ -36,9 +36,9 @@ unfoldable pub stands : List ℕ → Names → Option (Sort × Tree)
 stands w scope = or_else (binder_of w 0 scope.binders) (item_of w scope.items)
 
 -- the scope under a binder, where one came before
-abbrev pub under : Option Name → Names → Names
-under None scope = scope
-under (Some x) scope = record scope { binders = x ∷ scope.binders }
+abbrev pub names_under : Option Name → Names → Names
+names_under None scope = scope
+names_under (Some x) scope = record scope { binders = x ∷ scope.binders }
 
 -- the scope of an item behind these, whose own name is not in it
 abbrev pub behind : List Name → Names

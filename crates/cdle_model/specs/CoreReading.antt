@@ -12,8 +12,8 @@ use Rattle.cdle_model.specs.declared.grammar.CoreWanted.{CoreWanted}
 use Rattle.cdle_model.specs.declared.grammar.CoreWanted.TheVariants as wanted
 use Rattle.cdle_model.specs.CoreFaults.{Fault, BadText, Unbound, WrongClass, TooDeep, wanted_part, unexpected}
 use Rattle.cdle_model.specs.CoreTokens.{Opens, Closes, Word, Token}
-use Rattle.cdle_model.specs.CoreGrammar.{form_of, names_of, pieces, made, look_up, item_words, item_pieces, made_item}
-use Rattle.cdle_model.specs.CoreNames.{Name, Names, under, behind, stands, same_sort, is_star, with_item}
+use Rattle.cdle_model.specs.CoreGrammar.{form_of, name_sort, pieces, made, look_up, item_words, item_pieces, made_item}
+use Rattle.cdle_model.specs.CoreNames.{Name, Names, names_under, behind, stands, same_sort, is_star, with_item}
 
 infixl 10 ◌>>=◌
 abbrev pub ◌>>=◌ : {A B : Type 0} → Result A Fault → (A → Result B Fault) → Result B Fault
@@ -56,7 +56,7 @@ word_with at scope c (Some s) w ts = if is_star w then Err (BadText at (wanted_p
 
 -- a part that is one word
 unfoldable pub leaf : ℕ → Names → Class → List ℕ → List Token → Read Tree
-leaf at scope c w ts = word_with at scope c (names_of c) w ts
+leaf at scope c w ts = word_with at scope c (name_sort c) w ts
 
 -- what reads a part, or what stands behind a parenthesis at a place
 abbrev pub Reader : Type 0
@@ -73,7 +73,7 @@ pieces_with read end left scope binder (Part c ∷ ps) ts = do
   us ← pieces_with read end left scope binder ps t.1
   Ok (t.0 ∷ us.0, us.1)
 pieces_with read end left scope binder (Under c ∷ ps) ts = do
-  t ← read (under binder scope) c ts
+  t ← read (names_under binder scope) c ts
   us ← pieces_with read end left scope binder ps t.1
   Ok (t.0 ∷ us.0, us.1)
 

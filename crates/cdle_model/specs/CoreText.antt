@@ -10,9 +10,9 @@ use Rattle.cdle_model.specs.declared.grammar.Form.{Form}
 use Rattle.cdle_model.specs.declared.grammar.Piece.{Piece}
 use Rattle.cdle_model.specs.declared.grammar.Piece.TheVariants.{Binder, Part, Under}
 use Rattle.cdle_model.specs.CoreTokens.{Token, Opens, Closes, Word, tokens}
-use Rattle.cdle_model.specs.CoreGrammar.{form_of, names_of, pieces, made, look_up, item_words, item_pieces, item_parts}
+use Rattle.cdle_model.specs.CoreGrammar.{form_of, name_sort, pieces, made, look_up, item_words, item_pieces, item_parts}
 use Rattle.cdle_model.specs.Classes.{item_sort}
-use Rattle.cdle_model.specs.CoreNames.{Name, Names, under, behind, is_star, stands, with_item}
+use Rattle.cdle_model.specs.CoreNames.{Name, Names, names_under, behind, is_star, stands, with_item}
 
 -- what a word may stand for at a place
 abbrev pub Meaning : Type 1
@@ -22,9 +22,9 @@ Meaning = Names → List ℕ → Sort → Tree → Type 0
 mutual
   pub data Reads (Means : Meaning) : ℕ → Names → Class → List Token → Tree → List Token → Type 0 where
     star : {left : ℕ} {scope : Names} {c : Class} {at : ℕ} {w : List ℕ} {ts : List Token}
-        → names_of c ≡ None → is_star w ≡ true → Reads Means left scope c ((at, Word w) ∷ ts) forms.star ts
+        → name_sort c ≡ None → is_star w ≡ true → Reads Means left scope c ((at, Word w) ∷ ts) forms.star ts
     name : {left : ℕ} {scope : Names} {c : Class} {s : Sort} {at : ℕ} {w : List ℕ} {t : Tree} {ts : List Token}
-        → names_of c ≡ Some s → is_star w ≡ false → Means scope w s t → Reads Means left scope c ((at, Word w) ∷ ts) t ts
+        → name_sort c ≡ Some s → is_star w ≡ false → Means scope w s t → Reads Means left scope c ((at, Word w) ∷ ts) t ts
     form : {left : ℕ} {scope : Names} {c : Class} {at from to : ℕ} {w : List ℕ} {f : Form} {us : List Tree} {ts rest : List Token}
         → form_of c w ≡ Some f → ReadsPieces Means left scope None (pieces f) ts us ((to, Closes) ∷ rest)
         → Reads Means (suc left) scope c ((at, Opens) ∷ (from, Word w) ∷ ts) (made f us) rest
@@ -39,7 +39,7 @@ mutual
         → Reads Means left scope c ts t next → ReadsPieces Means left scope binder ps next us rest
         → ReadsPieces Means left scope binder (Part c ∷ ps) ts (t ∷ us) rest
     inner : {left : ℕ} {scope : Names} {binder : Option Name} {c : Class} {ps : List Piece} {t : Tree} {us : List Tree} {ts next rest : List Token}
-        → Reads Means left (under binder scope) c ts t next → ReadsPieces Means left scope binder ps next us rest
+        → Reads Means left (names_under binder scope) c ts t next → ReadsPieces Means left scope binder ps next us rest
         → ReadsPieces Means left scope binder (Under c ∷ ps) ts (t ∷ us) rest
 
 -- what the scope says

@@ -11,8 +11,8 @@ use Rattle.cdle_model.specs.declared.grammar.CoreWanted.{CoreWanted}
 use Rattle.cdle_model.specs.declared.grammar.CoreWanted.TheVariants as wanted
 use Rattle.cdle_model.specs.CoreFaults.{Fault, BadText, Unbound, WrongClass, TooDeep, wanted_part, passes_nesting}
 use Rattle.cdle_model.specs.CoreTokens.{Lexeme, Opens, Closes, Word, Token, tokens}
-use Rattle.cdle_model.specs.CoreGrammar.{form_of, names_of, pieces, look_up, item_words, item_pieces}
-use Rattle.cdle_model.specs.CoreNames.{Name, Names, under, behind, stands, same_sort, is_star}
+use Rattle.cdle_model.specs.CoreGrammar.{form_of, name_sort, pieces, look_up, item_words, item_pieces}
+use Rattle.cdle_model.specs.CoreNames.{Name, Names, names_under, behind, stands, same_sort, is_star}
 use Rattle.cdle_model.specs.CoreText.{IsText}
 
 -- What is wanted at a place. The numbers are of the parentheses that may still open.
@@ -51,7 +51,7 @@ abbrev pub for_pieces : ℕ → Names → Option Name → List Piece → List Wa
 for_pieces left scope binder [] = Closing left ∷ []
 for_pieces left scope binder (Binder s ∷ ps) = Binding left scope s ps ∷ []
 for_pieces left scope binder (Part c ∷ ps) = PartOf left scope c ∷ for_pieces left scope binder ps
-for_pieces left scope binder (Under c ∷ ps) = PartOf left (under binder scope) c ∷ for_pieces left scope binder ps
+for_pieces left scope binder (Under c ∷ ps) = PartOf left (names_under binder scope) c ∷ for_pieces left scope binder ps
 
 -- what may be wrong with a name that the grammar takes
 pub data Wrong : Type 0 where
@@ -96,7 +96,7 @@ act (TheWord word what) (Word w) = if bytes_eq w word then fine [] else None
 act (MoreItems known) Opens = fine (ItemWord known ∷ [])
 act (ItemWord known) (Word w) = an_item known (look_up w item_words)
 act (ItemName known s) (Word w) = if is_star w then None else fine (for_pieces 1023 (behind known) None (item_pieces s) ++ MoreItems (record { text = w; sort = s } ∷ known) ∷ [])
-act (PartOf left scope c) (Word w) = a_word scope (names_of c) w
+act (PartOf left scope c) (Word w) = a_word scope (name_sort c) w
 act (PartOf left scope c) Opens = fine (opening left scope c)
 act (FormOf left scope c) (Word w) = a_form left scope (form_of c w)
 act (Binding left scope s ps) (Word w) = if is_star w then None else fine (for_pieces left scope (Some (record { text = w; sort = s })) ps)
@@ -120,10 +120,10 @@ ended end (MoreItems known) = Ok []
 ended end w = Err (BadText end (word_of w))
 
 -- the tokens that are left when all that is wanted was found, or the first fault
-unfoldable pub run : ℕ → List Want → List Token → Result (List Token) Fault
-run end [] ts = Ok ts
-run end (w ∷ ws) [] = ended end w
-run end (w ∷ ws) (t ∷ ts) = step w t (λ front. run end (front ++ ws) ts)
+unfoldable pub rest_or_fault : ℕ → List Want → List Token → Result (List Token) Fault
+rest_or_fault end [] ts = Ok ts
+rest_or_fault end (w ∷ ws) [] = ended end w
+rest_or_fault end (w ∷ ws) (t ∷ ts) = step w t (λ front. rest_or_fault end (front ++ ws) ts)
 
 -- what a file begins with, behind items of these names
 abbrev pub start : List Name → List Want
@@ -131,7 +131,7 @@ start known = TheWord (codes "core") wanted.Core ∷ TheWord (codes "1") wanted.
 
 -- the bytes are UTF-8, and the first fault of the text is this one
 abbrev pub IsFirstFault : List ℕ → List Name → Fault → Type 0
-IsFirstFault bytes known f = IsUtf8 bytes × (run (length bytes) (start known) (tokens false 0 bytes) ≡ Err f)
+IsFirstFault bytes known f = IsUtf8 bytes × (rest_or_fault (length bytes) (start known) (tokens false 0 bytes) ≡ Err f)
 
 -- ---- scope and nesting not regarded
 

@@ -72,14 +72,14 @@ mutual
     snd_rule : {c : List Entry} {t a b : Tree} → Has is a_term c t (iota a b)
         → Rule is a_term c (snd t) (put 0 (erased t) b)
     beta_rule : {c : List Entry} {p k : Tree} → Rule is a_term c (beta p k) (eq p p)
-    rho_rule : {c : List Entry} {q g a t x y : Tree} → Has is a_term c q (eq x y) → Has is a_type c a star
-        → Joined (bodies is) (erased a) (put 0 x g) → Has is a_term c t (put 0 y g)
+    rho_rule : {c : List Entry} {q g a t l r : Tree} → Has is a_term c q (eq l r) → Has is a_type c a star
+        → Joined (bodies is) (erased a) (put 0 l g) → Has is a_term c t (put 0 r g)
         → Rule is a_term c (rho q g a t) (erased a)
-    phi_rule : {c : List Entry} {q t p a x y : Tree} → Has is a_term c q (eq x y) → Has is a_term c t a
-        → Joined (bodies is) x (erased t) → Joined (bodies is) y p
+    phi_rule : {c : List Entry} {q t p a l r : Tree} → Has is a_term c q (eq l r) → Has is a_term c t a
+        → Joined (bodies is) l (erased t) → Joined (bodies is) r p
         → Rule is a_term c (phi q t p) a
-    delta_rule : {c : List Entry} {q a x y : Tree} → Has is a_type c a star → Has is a_term c q (eq x y)
-        → Joined (bodies is) x true_pure → Joined (bodies is) y false_pure
+    delta_rule : {c : List Entry} {q a l r : Tree} → Has is a_type c a star → Has is a_term c q (eq l r)
+        → Joined (bodies is) l true_pure → Joined (bodies is) r false_pure
         → Rule is a_term c (delta a q) (erased a)
     -- types
     var_type : {c : List Entry} {i : ℕ} {k : Tree} → entry c i ≡ Some (type_of k) → Rule is a_type c (var i) k

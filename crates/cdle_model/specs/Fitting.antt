@@ -6,6 +6,7 @@ use Rattle.cdle_model.specs.Trees.{Tree}
 use Rattle.cdle_model.specs.Forms.{Written, def_item, type_item}
 use Rattle.cdle_model.specs.Classes.{TreeClass, terms, types, kinds, pure_terms, guides, guide_kinds, within, Fits}
 use Rattle.cdle_model.specs.Erasure.{HasErasure}
+use Rattle.cdle_model.specs.Steps.{Step, Linked}
 use Rattle.cdle_model.specs.Derivation.{Entry, term_of, type_of, Item, bodies, item, Judgement, a_term, a_type, a_kind}
 
 -- the classes of erased trees
@@ -75,3 +76,11 @@ BodiesFit xs s = (n : ℕ) (p : Tree) (x : Sort) → slice_get s n ≡ Some p �
 pub record SignatureFits (xs : List Sort) (is : List Item) : Type 0 where
   pub bodies_fit : BodiesFit xs (bodies is)
   pub known_fit : (n : ℕ) (x : Sort) → slice_get xs n ≡ Some x → EntryFits [] xs x (item is n)
+
+-- a step from one tree of the class to another, over the sorts of variables and of items
+abbrev pub StepWithin : List Sort → List Sort → TreeClass → List Tree → Tree → Tree → Type 0
+StepWithin vs xs c s a b = Step s a b × Fits (within vs xs) c a × Fits (within vs xs) c b
+
+-- equality by a list of trees of the class alone
+abbrev pub JoinedWithin : List Sort → List Sort → TreeClass → List Tree → Tree → Tree → Type 0
+JoinedWithin vs xs c s = Linked (StepWithin vs xs c s)

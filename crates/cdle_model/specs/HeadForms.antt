@@ -2,7 +2,7 @@
 use Rattle.std.specs.Prelude.{ℕ, cond, ltb, List, Option, Some, None, slice_get}
 use Rattle.cdle_model.specs.Trees.{Function, of_pure, of_term, of_type, Tree, name, fun, apply, put}
 use Rattle.cdle_model.specs.Depth.{depth}
-use Rattle.cdle_model.specs.Machine.{Move, stop, go, Outcome, run}
+use Rattle.cdle_model.specs.Machine.{Move, stop, go, Budgeted, run}
 
 -- why the work ends for good without a result: a tree that was built is too deep; or a pure function is applied as a type is, or stands
 -- against a type's form. No tree of a class comes to the second, and no other answer would be true there: `λx. p x` of a type `p` is of no
@@ -71,5 +71,5 @@ head_move s (at p) = head_after p (head_step s p)
 head_move s (fallen h) = stop (no_value h)
 
 -- the head form with n units
-abbrev pub head_form : List Tree → ℕ → Tree → Outcome HeadAnswer
+abbrev pub head_form : List Tree → ℕ → Tree → Budgeted HeadAnswer
 head_form s n p = run (head_move s) n (at p)

@@ -33,6 +33,10 @@ count_word count.Bytes = codes "bytes"
 count_word count.Nesting = codes "nesting"
 count_word count.Depth = codes "depth"
 count_word count.Items = codes "items"
+count_word count.Modules = codes "modules"
+count_word count.Constructors = codes "constructors"
+count_word count.Arguments = codes "arguments"
+count_word count.Parameters = codes "parameters"
 
 -- the numbers of a path from the item inwards
 abbrev pub path_text : List ℕ → List ℕ

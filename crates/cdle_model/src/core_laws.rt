@@ -1,11 +1,11 @@
 //! The laws of Core's definitions. Each is the contract of a function with an empty body.
 ghost use Rattle.std.specs.Prelude.{◌≡◌, ◌≤◌, ◌+◌, ℕ, suc, true, List, ◌∷◌, take};
 ghost use Rattle.cdle_model.specs.Check.{IsUndecided, ListVerdict, Reason, accepts, answer, check_items, duplicate, ends, gives, infer, refuses, spends};
-ghost use Rattle.cdle_model.specs.Classes.{AreItems, Fits, TreeClass, item_sorts, terms, within};
+ghost use Rattle.cdle_model.specs.Classes.{AreScoped, Fits, TreeClass, item_sorts, terms, within};
 ghost use Rattle.cdle_model.specs.Comparison.{Answer, apart, compare, halted, same};
 ghost use Rattle.cdle_model.specs.Derivation.{AreDerived, Entry, Has, Item, Judgement, bodies, signature};
 ghost use Rattle.cdle_model.specs.Erasure.{HasErasure, erased};
-ghost use Rattle.cdle_model.specs.Fitting.{BodiesFit, ContextFits, HaveErasures, IsErased, SignatureFits, class_of, entry_sorts, erased_class, given_class, subject_class};
+ghost use Rattle.cdle_model.specs.Fitting.{BodiesFit, ContextFits, HaveErasures, IsErased, JoinedWithin, SignatureFits, class_of, entry_sorts, erased_class, given_class, subject_class};
 ghost use Rattle.cdle_model.specs.Forms.{Written, xlam};
 ghost use Rattle.cdle_model.specs.HeadForms.{Halt, HeadAnswer, deep, head_form, head_step, no_value, none, value};
 ghost use Rattle.cdle_model.specs.Machine.{answered};
@@ -46,8 +46,8 @@ pub fn erasure_keeps_classes()
 
 /// A list of items is a signature over which the laws hold.
 pub fn items_are_a_signature()
-    ensures closed { (ws : List Written) → AreItems ws → IsSignature (bodies (signature ws)) }
-    ensures classes { (ws : List Written) → AreItems ws → HaveErasures ws → SignatureFits (item_sorts ws) (signature ws) }
+    ensures closed { (ws : List Written) → AreScoped ws → IsSignature (bodies (signature ws)) }
+    ensures classes { (ws : List Written) → AreScoped ws → HaveErasures ws → SignatureFits (item_sorts ws) (signature ws) }
 {}
 
 /// A shift, a substitution and a step keep the class of an erased tree, and the sorts of its variables and names.
@@ -76,6 +76,12 @@ pub fn steps_are_confluent()
     ensures { (s : List Tree) → IsSignature s → (a b : Tree) → Joined s a b → Meets (Step s) a b }
 {}
 
+/// Two trees of a class that are joined are joined by trees of that class, though a list of neighbours may also lead through trees of none.
+pub fn joined_trees_stay_in_class()
+    ensures { (vs xs : List Sort) (s : List Tree) → IsSignature s → BodiesFit xs s → (c : TreeClass) → IsErased c → (a b : Tree)
+        → Fits (within vs xs) c a → Fits (within vs xs) c b → Joined s a b → JoinedWithin vs xs c s a b }
+{}
+
 /// Where the comparison at some budget says same, the two are joined; a head form is joined with its tree, and has no step at its head.
 pub fn same_is_joined()
     ensures comparison { (s : List Tree) (n : ℕ) (a b : Tree) (left : ℕ) → compare s n a b ≡ answered same left → Joined s a b }
@@ -98,14 +104,14 @@ pub fn larger_budget_keeps_answer()
 pub fn check_keeps_classes()
     ensures head_form { (vs xs : List Sort) (s : List Tree) → BodiesFit xs s → (c : TreeClass) → IsErased c → (n : ℕ) (a b : Tree) (left : ℕ) → Fits (within vs xs) c a → head_form s n a ≡ answered (value b) left → Fits (within vs xs) c b }
     ensures found { (xs : List Sort) (is : List Item) → SignatureFits xs is → (n : ℕ) (j : Judgement) (c : List Entry) (t a : Tree) → ContextFits xs c → Fits (within (entry_sorts c) xs) (subject_class j) t → answer (bodies is) n (infer is j c t) ≡ gives a → HasErasure t × Fits (within (entry_sorts c) xs) (given_class j) a }
-    ensures accepted { (ws : List Written) → AreItems ws → (n : ℕ) → check_items n ws ≡ accepts → HaveErasures ws }
+    ensures accepted { (ws : List Written) → AreScoped ws → (n : ℕ) → check_items n ws ≡ accepts → HaveErasures ws }
 {}
 
 /// Where each variable and name is used in its class, the work ends early for good by depth alone.
 pub fn only_depth_ends_early()
     ensures head_form { (vs xs : List Sort) (s : List Tree) → BodiesFit xs s → (c : TreeClass) → IsErased c → (n : ℕ) (a : Tree) (h : Halt) (left : ℕ) → Fits (within vs xs) c a → head_form s n a ≡ answered (no_value h) left → h ≡ deep }
     ensures comparison { (vs xs : List Sort) (s : List Tree) → BodiesFit xs s → (c : TreeClass) → IsErased c → (n : ℕ) (a b : Tree) (h : Halt) (left : ℕ) → Fits (within vs xs) c a → Fits (within vs xs) c b → compare s n a b ≡ answered (halted h) left → h ≡ deep }
-    ensures list { (ws : List Written) → AreItems ws → (n i : ℕ) (h : Halt) → check_items n ws ≡ ends i h → h ≡ deep }
+    ensures list { (ws : List Written) → AreScoped ws → (n i : ℕ) (h : Halt) → check_items n ws ≡ ends i h → h ≡ deep }
 {}
 
 /// Where all passes with more than n units before a question that is spent with n, the plain check at n is spent, there or earlier; where it is spent, this is so.
@@ -121,11 +127,11 @@ pub fn types_are_unique()
 
 /// Where the plain check at some budget accepts a list of items, the list has a derivation.
 pub fn accepted_list_is_derived()
-    ensures { (ws : List Written) → AreItems ws → (n : ℕ) → check_items n ws ≡ accepts → AreDerived ws }
+    ensures { (ws : List Written) → AreScoped ws → (n : ℕ) → check_items n ws ≡ accepts → AreDerived ws }
 {}
 
 /// Where the plain check at some budget refuses an item, or its name as one that an earlier item has, the items up to that one have no derivation.
 pub fn refused_list_is_not_derived()
-    ensures refused { (ws : List Written) → AreItems ws → (n i : ℕ) (p : List ℕ) (w : Reason) → check_items n ws ≡ refuses i p w → AreDerived (take (suc i) ws) → ⊥ }
-    ensures repeated { (ws : List Written) → AreItems ws → (n i j : ℕ) → check_items n ws ≡ duplicate i j → AreDerived (take (suc i) ws) → ⊥ }
+    ensures refused { (ws : List Written) → AreScoped ws → (n i : ℕ) (p : List ℕ) (w : Reason) → check_items n ws ≡ refuses i p w → AreDerived (take (suc i) ws) → ⊥ }
+    ensures repeated { (ws : List Written) → AreScoped ws → (n i j : ℕ) → check_items n ws ≡ duplicate i j → AreDerived (take (suc i) ws) → ⊥ }
 {}

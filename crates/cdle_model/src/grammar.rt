@@ -1,4 +1,4 @@
-//! The plain enumerations of Core text, and of the limits, that definitions and code both name.
+//! The plain enumerations of Core text, of the limits and of arguments that definitions and code both name.
 
 /// What a name stands for.
 #[derive(Clone, Copy, Debug, PartialEq, Eq)]
@@ -91,4 +91,16 @@ pub enum Count {
     Nesting,
     Depth,
     Items,
+    Modules,
+    Constructors,
+    Arguments,
+    Parameters,
+}
+
+/// How an argument is taken: kept, or erased, or it is a type.
+#[derive(Clone, Copy, Debug, PartialEq, Eq)]
+pub enum Mode {
+    Kept,
+    Erased,
+    OfType,
 }

@@ -1,8 +1,9 @@
 //! The laws of the definitions. Each is the contract of a function with an empty body.
-ghost use Rattle.std.specs.Prelude.{◌≡◌, ◌⊎◌, ◌++◌, ℕ, List, [], false, length};
+ghost use Rattle.std.specs.Prelude.{◌≡◌, ◌⊎◌, ◌++◌, ℕ, List, [], Some, false, length};
 ghost use Rattle.std.specs.Str.{IsUtf8};
-ghost use Rattle.cdle_model.specs.Classes.{AreItems, AreOver};
+ghost use Rattle.cdle_model.specs.Classes.{AreScoped, AreScopedOver};
 ghost use Rattle.cdle_model.specs.CoreFaults.{BadText, Fault, TooDeep};
+ghost use Rattle.cdle_model.specs.CoreGrammar.{Shape, form_in, form_of, made};
 ghost use Rattle.cdle_model.specs.CoreNames.{Name, Names, with_items};
 ghost use Rattle.cdle_model.specs.CoreText.{Reads, Says, Stands};
 ghost use Rattle.cdle_model.specs.CoreTokens.{Token, tokens};
@@ -11,6 +12,12 @@ ghost use Rattle.cdle_model.specs.Forms.{Written};
 ghost use Rattle.cdle_model.specs.Trees.{Tree};
 ghost use Rattle.cdle_model.specs.declared.grammar.Class.{Class};
 ghost use Rattle.cdle_model.specs.declared.grammar.CoreWanted.{CoreWanted};
+
+/// The form of a class that the table finds for a tree makes that tree of its parts, and stands in the class's table under its word.
+pub fn found_form_makes_its_tree()
+    ensures makes { (c : Class) (t : Tree) (s : Shape) → form_in c t ≡ Some s → made s.form s.parts ≡ t }
+    ensures word { (c : Class) (t : Tree) (s : Shape) → form_in c t ≡ Some s → form_of c s.word ≡ Some s.form }
+{}
 
 /// The tokens of a part are one tree, and the bytes of a file say one list of items.
 pub fn one_text_one_tree()
@@ -43,12 +50,12 @@ pub fn too_deep_is_past_the_limit()
 
 /// What a text says behind items is a list of items, each closed and over the earlier ones, with each variable and name used in its class.
 pub fn read_items_are_items()
-    ensures { (bytes : List ℕ) (es ws : List Written) → Says bytes (with_items es []) ws → AreOver es ws }
+    ensures { (bytes : List ℕ) (es ws : List Written) → Says bytes (with_items es []) ws → AreScopedOver es ws }
 {}
 
 /// Files one after the other: what a text says behind a list of items makes one list with them, and the names behind both lists are those
 /// behind the second where those behind the first are known.
 pub fn files_make_one_list()
-    ensures items { (bytes : List ℕ) (es ws : List Written) → AreItems es → Says bytes (with_items es []) ws → AreItems (es ++ ws) }
+    ensures items { (bytes : List ℕ) (es ws : List Written) → AreScoped es → Says bytes (with_items es []) ws → AreScoped (es ++ ws) }
     ensures names { (es ws : List Written) (known : List Name) → with_items (es ++ ws) known ≡ with_items ws (with_items es known) }
 {}

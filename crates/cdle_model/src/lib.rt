@@ -18,14 +18,14 @@ pub use core_examples::{
 pub use core_laws::{
     accepted_list_is_derived, apart_is_not_joined, check_keeps_classes, erasure_commutes,
     erasure_keeps_classes, items_are_a_signature, joined_is_a_congruence,
-    larger_budget_keeps_answer, missing_variable_is_lowered, only_depth_ends_early,
-    refused_list_is_not_derived, renumbering_commutes, same_is_joined, steps_are_confluent,
-    steps_keep_classes, types_are_unique, undecided_is_spent,
+    joined_trees_stay_in_class, larger_budget_keeps_answer, missing_variable_is_lowered,
+    only_depth_ends_early, refused_list_is_not_derived, renumbering_commutes, same_is_joined,
+    steps_are_confluent, steps_keep_classes, types_are_unique, undecided_is_spent,
 };
-pub use grammar::{Class, CoreWanted, Count, Form, Piece, Sort};
+pub use grammar::{Class, CoreWanted, Count, Form, Mode, Piece, Sort};
 pub use laws::{
-    bad_text_is_first, files_make_one_list, one_text_one_tree, read_items_are_items,
-    said_is_faultless, text_is_said_or_faulty, too_deep_is_past_the_limit,
+    bad_text_is_first, files_make_one_list, found_form_makes_its_tree, one_text_one_tree,
+    read_items_are_items, said_is_faultless, text_is_said_or_faulty, too_deep_is_past_the_limit,
 };
 use std::alloc::{AllocError, AllocFailed};
 pub use text::Text;

@@ -3,7 +3,7 @@ use Rattle.std.proofs.Common.{◌≡◌, ℕ, ◌+◌, Bool, true, false, List, 
 use Rattle.cdle_model.specs.declared.grammar.Sort.{Sort}
 use Rattle.cdle_model.specs.Trees.{Tree}
 use Rattle.cdle_model.specs.Forms.{eq, Written}
-use Rattle.cdle_model.specs.Classes.{guides, AreItems, Fits, within, item_sorts}
+use Rattle.cdle_model.specs.Classes.{guides, AreScoped, Fits, within, item_sorts}
 use Rattle.cdle_model.specs.Machine.{answered}
 use Rattle.cdle_model.specs.HeadForms.{value, head_form}
 use Rattle.cdle_model.specs.Derivation.{bodies, signature}
@@ -32,10 +32,10 @@ use Rattle.core_check.specs.declared.fault.Fault.{Fault}
 use Rattle.core_check.proofs.Results.{leads_head, refuses, head_spent, head_deep, leads_same, same_spent, same_deep, apart_refuses, no_memory}
 
 -- a head form keeps the classes of variables and names
-pub head_keeps : (es : List Written) → AreItems es → HaveErasures es → (n : ℕ) (a b : Tree) (left : ℕ) → head_form (bodies (signature es)) n a ≡ answered (value b) left → Keeps (item_sorts es) a b
+pub head_keeps : (es : List Written) → AreScoped es → HaveErasures es → (n : ℕ) (a b : Tree) (left : ℕ) → head_form (bodies (signature es)) n a ≡ answered (value b) left → Keeps (item_sorts es) a b
 head_keeps es g h n a b left e = λ vs c i f. subst (HeadFits (item_sorts es) (bodies (signature es)) (items-fit es g h).bodies_fit vs c) e (head-fits (item_sorts es) (bodies (signature es)) (items-fit es g h).bodies_fit n vs c a i f)
 
-pub head_meets : (es : List Written) → AreItems es → HaveErasures es → (n : ℕ) (p : List ℕ) (c : SideClass) (a : Tree) (old new : ℕ) (v : Value) → IsHeadForm (bodies (signature es)) c a old new v → MeetsHeadForm es n p c a (Ok v)
+pub head_meets : (es : List Written) → AreScoped es → HaveErasures es → (n : ℕ) (p : List ℕ) (c : SideClass) (a : Tree) (old new : ℕ) (v : Value) → IsHeadForm (bodies (signature es)) c a old new v → MeetsHeadForm es n p c a (Ok v)
 head_meets es g h n p c a old new v f = (f.form, f.stands, (λ k. leads_head es n p a f.form k (f.used + f.rest) f.rest f.is), head_keeps es g h (f.used + f.rest) a f.form f.rest f.is)
 
 pub head_stops : (es : List Written) (n : ℕ) (p : List ℕ) (c : SideClass) (a : Tree) (new : ℕ) (stop : Stop) (e : Fault) → MeetsHead (bodies (signature es)) c a n new (Err stop) → IsStopped p stop e → MeetsHeadForm es n p c a (Err e)

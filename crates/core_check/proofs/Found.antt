@@ -2,7 +2,7 @@
 use Rattle.std.proofs.Common.{◌≡◌, ℕ, zero, suc, List, [], ◌∷◌, Ok, Some, slice_get, subst, ap}
 use Rattle.cdle_model.specs.Trees.{Tree}
 use Rattle.cdle_model.specs.Forms.{Written}
-use Rattle.cdle_model.specs.Classes.{AreItems, Fits, item_sorts, within}
+use Rattle.cdle_model.specs.Classes.{AreScoped, Fits, item_sorts, within}
 use Rattle.cdle_model.specs.Derivation.{Entry, Judgement, bodies, item, signature, signed}
 use Rattle.cdle_model.specs.Erasure.{HasErasure}
 use Rattle.cdle_model.specs.Fitting.{ContextFits, HaveErasures, entry_sorts, given_class, subject_class}
@@ -11,7 +11,7 @@ use Rattle.cdle_model.proofs.ClassChecked.{FindingSound, IsFound, answer-sound, 
 use Rattle.cdle_model.proofs.ClassItems.{items-fit}
 use Rattle.core_check.specs.Questions.{Meets}
 
-pub kept : (es : List Written) → AreItems es → HaveErasures es → (n : ℕ) (j : Judgement) (c : List Entry) (t a : Tree) → ContextFits (item_sorts es) c → Fits (within (entry_sorts c) (item_sorts es)) (subject_class j) t
+pub kept : (es : List Written) → AreScoped es → HaveErasures es → (n : ℕ) (j : Judgement) (c : List Entry) (t a : Tree) → ContextFits (item_sorts es) c → Fits (within (entry_sorts c) (item_sorts es)) (subject_class j) t
     → Meets es n (infer (signature es) j c t) (Ok a) → HasErasure t × Fits (within (entry_sorts c) (item_sorts es)) (given_class j) a
 unfolding Meets
 kept es g h n j c t a k f (m, e) =

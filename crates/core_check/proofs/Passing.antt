@@ -1,7 +1,7 @@
 -- Questions that pass up to others, and those of a part as seen from its form.
 use Rattle.std.proofs.Common.{◌≡◌, inl, inr, ℕ, ◌+◌, List, ◌∷◌, refl, sym, ap, ◌∙◌, subst, arith}
 use Rattle.cdle_model.specs.Trees.{Tree}
-use Rattle.cdle_model.specs.Machine.{Outcome, answered, spent}
+use Rattle.cdle_model.specs.Machine.{Budgeted, answered, spent}
 use Rattle.cdle_model.specs.HeadForms.{HeadAnswer, value, no_value, head_form}
 use Rattle.cdle_model.specs.Comparison.{Answer, same, apart, halted, compare}
 use Rattle.cdle_model.specs.Check.{Reason, Finding, gives, refused, spent_at, halts, Questions, finds, refuse, halt, ask_same, ask_head, at_part, by_answer, by_head, answer, SpentAfter}
@@ -20,13 +20,13 @@ inside i (refused p w) k = refused (i ∷ p) w
 inside i (spent_at p) k = spent_at (i ∷ p)
 inside i (halts h) k = halts h
 
-inside_answer : (i : ℕ) (p : List ℕ) (w : Reason) (x : Outcome Answer) (y z : Finding) (k : Tree → Finding) → y ≡ inside i z k → by_answer (i ∷ p) w x y ≡ inside i (by_answer p w x z) k
+inside_answer : (i : ℕ) (p : List ℕ) (w : Reason) (x : Budgeted Answer) (y z : Finding) (k : Tree → Finding) → y ≡ inside i z k → by_answer (i ∷ p) w x y ≡ inside i (by_answer p w x z) k
 inside_answer i p w (answered same left) y z k e = e
 inside_answer i p w (answered (apart a b) left) y z k e = refl
 inside_answer i p w (answered (halted h) left) y z k e = refl
 inside_answer i p w spent y z k e = refl
 
-inside_head : (i : ℕ) (p : List ℕ) (x : Outcome HeadAnswer) (y z : Tree → Finding) (k : Tree → Finding) → ((b : Tree) → y b ≡ inside i (z b) k) → by_head (i ∷ p) x y ≡ inside i (by_head p x z) k
+inside_head : (i : ℕ) (p : List ℕ) (x : Budgeted HeadAnswer) (y z : Tree → Finding) (k : Tree → Finding) → ((b : Tree) → y b ≡ inside i (z b) k) → by_head (i ∷ p) x y ≡ inside i (by_head p x z) k
 inside_head i p (answered (value b) left) y z k e = e b
 inside_head i p (answered (no_value h) left) y z k e = refl
 inside_head i p spent y z k e = refl
@@ -77,14 +77,14 @@ spent_later s n m i p (refuse p' w) f a e h = absurd (grind arith)
 spent_later s n m i p (halt z) f a e h = absurd (grind arith)
 spent_later s n m i p (ask_same p' w x y q) f a e h = by_compare (λ g. spent_later s n m i p q f a g h) (compare s m x y) refl e
   where
-    by_compare : (answer s m q ≡ gives a → SpentAfter s n m p (at_part i q f)) → (o : Outcome Answer) → compare s m x y ≡ o → by_answer p' w o (answer s m q) ≡ gives a → SpentAfter s n m p (at_part i (ask_same p' w x y q) f)
+    by_compare : (answer s m q ≡ gives a → SpentAfter s n m p (at_part i q f)) → (o : Budgeted Answer) → compare s m x y ≡ o → by_answer p' w o (answer s m q) ≡ gives a → SpentAfter s n m p (at_part i (ask_same p' w x y q) f)
     by_compare k (answered same left) g l = inr ((left, g), k l)
     by_compare k (answered (apart c d) left) g l = absurd (grind arith)
     by_compare k (answered (halted z) left) g l = absurd (grind arith)
     by_compare k spent g l = absurd (grind arith)
 spent_later s n m i p (ask_head p' x k) f a e h = by_headed (λ b g. spent_later s n m i p (k b) f a g h) (head_form s m x) refl e
   where
-    by_headed : ((b : Tree) → answer s m (k b) ≡ gives a → SpentAfter s n m p (at_part i (k b) f)) → (o : Outcome HeadAnswer) → head_form s m x ≡ o → by_head p' o (λ b. answer s m (k b)) ≡ gives a
+    by_headed : ((b : Tree) → answer s m (k b) ≡ gives a → SpentAfter s n m p (at_part i (k b) f)) → (o : Budgeted HeadAnswer) → head_form s m x ≡ o → by_head p' o (λ b. answer s m (k b)) ≡ gives a
         → SpentAfter s n m p (at_part i (ask_head p' x k) f)
     by_headed g (answered (value b) left) j l = inr (b, left, j, g b l)
     by_headed g (answered (no_value z) left) j l = absurd (grind arith)

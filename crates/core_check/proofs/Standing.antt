@@ -6,7 +6,7 @@ use Rattle.std.proofs.lemmas.List.{append_assoc, append-nil}
 use Rattle.cdle_model.specs.Trees.{Tree}
 use Rattle.cdle_model.specs.Forms.{Written, name_of}
 use Rattle.cdle_model.specs.HeadForms.{deep}
-use Rattle.cdle_model.specs.Classes.{IsOver, AreOver}
+use Rattle.cdle_model.specs.Classes.{IsScopedOver, AreScopedOver}
 use Rattle.cdle_model.specs.Derivation.{bodies, signature}
 use Rattle.cdle_model.specs.Check.{first_of}
 use Rattle.cdle_model.specs.Check.{Finding, gives, refused, halts, infer_item, by_name, by_finding, check_item, check_after, check_items, SpentAfter, UndecidedAfter, IsUndecided}
@@ -82,7 +82,7 @@ one_more_passes n es w m a p new e = record {
 pub record Standing (n : ℕ) (ws es rest : List Written) (names : List ℕ → Option ℕ) : Type 0 where
   pub whole : ws ≡ es ++ rest
   pub named : (q : List ℕ) → names q ≡ first_of q es
-  pub over : AreOver es rest
+  pub over : AreScopedOver es rest
   pub passed : Passed n es
 
 -- the next item
@@ -90,13 +90,13 @@ module _ (n : ℕ) (ws es rest : List Written) (names : List ℕ → Option ℕ)
   whole_is : ws ≡ es ++ (w ∷ more)
   whole_is = s.whole ∙ ap (λ (l : List Written). es ++ l) e
 
-  over_is : AreOver es (w ∷ more)
-  over_is = subst (AreOver es) e s.over
+  over_is : AreScopedOver es (w ∷ more)
+  over_is = subst (AreScopedOver es) e s.over
 
   new_is : (q : List ℕ) → q ≡ name_of w → names q ≡ None → first_of (name_of w) es ≡ None
   new_is q named found = ap (λ (x : List ℕ). first_of x es) (sym named) ∙ sym (s.named q) ∙ found
 
-  pub is_over : IsOver es w
+  pub is_over : IsScopedOver es w
   is_over = over_is.0
 
   -- an earlier item has its name

@@ -2,7 +2,7 @@
 use Rattle.std.proofs.Common.{◌≡◌, ℕ, ◌+◌, List, length, Result, Ok, Err, IfOk, refl, sym, ap, subst, ◌∙◌, arith}
 use Rattle.cdle_model.specs.Forms.{Written}
 use Rattle.cdle_model.specs.HeadForms.{deep}
-use Rattle.cdle_model.specs.Classes.{AreItems}
+use Rattle.cdle_model.specs.Classes.{AreScoped}
 use Rattle.cdle_model.specs.Derivation.{signature, AreDerived}
 use Rattle.cdle_model.specs.Check.{infer_item, ListVerdict, accepts, refuses, spends, ends, duplicate, check_items}
 use Rattle.cdle_model.proofs.CheckLargerBudget.{list-stays}
@@ -30,12 +30,12 @@ item_fault n es w i f.NoMemory fault.NoMemory c o h = tt
 item_fault n es w i e x c o h = absurd o
 
 -- what is accepted has a derivation
-pub derived : (n : ℕ) (ws : List Written) (r : Result Checked CoreFault) → AreItems ws → IsAnswer n ws r → IfOk r (λ c. AreDerived ws)
+pub derived : (n : ℕ) (ws : List Written) (r : Result Checked CoreFault) → AreScoped ws → IsAnswer n ws r → IfOk r (λ c. AreDerived ws)
 derived n ws (Ok c) h (count, m, e) = accepted-derived ws h m e
 derived n ws (Err f) h a = tt
 
 -- what is refused has none
-pub none : (n : ℕ) (ws : List Written) (r : Result Checked CoreFault) → AreItems ws → IsAnswer n ws r → HaveNone ws r
+pub none : (n : ℕ) (ws : List Written) (r : Result Checked CoreFault) → AreScoped ws → IsAnswer n ws r → HaveNone ws r
 none n ws (Ok c) h a = tt
 none n ws (Err fault.NoMemory) h a = tt
 none n ws (Err (fault.Refused i path why)) h (m, r, e, k) = refused-lost ws h m i path r e

@@ -1,7 +1,7 @@
 //! The check of files, item by item.
 ghost use Rattle.std.specs.Prelude.{◌≡◌, ◌++◌, IfOk, map};
 ghost use Rattle.cdle_model.specs.Check.{check_items};
-ghost use Rattle.cdle_model.specs.Classes.{AreItems, IsOver};
+ghost use Rattle.cdle_model.specs.Classes.{AreScoped, IsScopedOver};
 ghost use Rattle.cdle_model.specs.Derivation.{AreDerived};
 ghost use Rattle.cdle_model.specs.Fitting.{ItemHasErasures};
 ghost use Rattle.core_tree.specs.Items.{written};
@@ -42,7 +42,7 @@ fn check_item(
     item: &CoreItem,
     budget: u64,
 ) -> Result<(), CoreFault>
-    requires { IsOver checked.now (written item.now) }
+    requires { IsScopedOver checked.now (written item.now) }
     ensures answer { IsItemAnswer budget checked.now (written item.now) result }
     ensures erasures { IfOk result (λ _. ItemHasErasures (written item.now)) }
 {
@@ -59,7 +59,7 @@ fn check_item(
 
 /// Checks the items in their order. A name that an earlier item has is found before its item is checked.
 fn check_all(alloc: Global, items: &[&CoreItem], budget: u64) -> Result<Checked, CoreFault>
-    requires { AreItems (map (λ item. written item.now) items.now) }
+    requires { AreScoped (map (λ item. written item.now) items.now) }
     ensures { IsAnswer budget (map (λ item. written item.now) items.now) result }
 {
     let mut checked = CheckedItems::new(alloc);
@@ -85,7 +85,7 @@ fn check_all(alloc: Global, items: &[&CoreItem], budget: u64) -> Result<Checked,
 /// Whether the items of the files, numbered from 0 over all of them, are accepted, with the budget for each comparison and each head form.
 /// At the first that is not: an earlier item has its name, or it breaks a rule, or the budget was spent, or a tree was too deep.
 pub fn check_files(alloc: Global, files: &Vec<CoreFile>, budget: u64) -> Result<Checked, CoreFault>
-    requires items { AreItems (items_of files.now.items) }
+    requires items { AreScoped (items_of files.now.items) }
     ensures answer { IsAnswer budget (items_of files.now.items) result }
     ensures derived { IfOk result (λ _. AreDerived (items_of files.now.items)) }
     ensures none { HaveNone (items_of files.now.items) result }

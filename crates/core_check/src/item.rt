@@ -1,7 +1,7 @@
 //! The rules of items.
 ghost use Rattle.std.specs.Prelude.{[], IfOk, List, ℕ};
 ghost use Rattle.cdle_model.specs.Check.{infer_item};
-ghost use Rattle.cdle_model.specs.Classes.{Fits, IsOver, item_sorts, kinds, terms, types, within};
+ghost use Rattle.cdle_model.specs.Classes.{Fits, IsScopedOver, item_sorts, kinds, terms, types, within};
 ghost use Rattle.cdle_model.specs.Derivation.{signature};
 ghost use Rattle.cdle_model.specs.Erasure.{HasErasure};
 ghost use Rattle.cdle_model.specs.Fitting.{ItemHasErasures};
@@ -18,7 +18,7 @@ use core_tree::{CoreItem, Kind, Term, Ty};
 impl Rules<'_> {
     /// An item: its written type has the kind `*`, or its written kind is one, and its body has it.
     pub(crate) fn item(&self, item: &CoreItem) -> Result<(), Fault>
-        requires { IsOver self.now.items.now (written item.now) }
+        requires { IsScopedOver self.now.items.now (written item.now) }
         ensures meets { MeetsItem self.now.items.now self.now.budget (infer_item (signature self.now.items.now) (written item.now)) result }
         ensures erasures { IfOk result (λ _. ItemHasErasures (written item.now)) }
     {

@@ -1,7 +1,7 @@
 -- Files that were read one behind the other.
 use Rattle.std.proofs.Common.{◌≡◌, ◌∙◌, false, ◌+◌, ℕ, List, [], ◌∷◌, ◌++◌, length, sym, ap, subst, arith, append_assoc}
 use Rattle.std.proofs.lemmas.List.{append-nil}
-use Rattle.cdle_model.specs.Classes.{AreItems}
+use Rattle.cdle_model.specs.Classes.{AreScoped}
 use Rattle.cdle_model.specs.CoreNames.{Name, with_items}
 use Rattle.cdle_model.specs.CoreText.{Says}
 use Rattle.cdle_model.specs.CoreTokens.{tokens}
@@ -12,7 +12,7 @@ use Rattle.core_tree.specs.declared.items.CoreFile.{CoreFile}
 
 -- the files make one list of items, of which these are the names, and so many
 pub record Read (files : List CoreFile) (known : List Name) (items : ℕ) : Type 0 where
-  pub over : AreItems (items_of files)
+  pub over : AreScoped (items_of files)
   pub named : known ≡ with_items (items_of files) []
   pub counted : length known ≡ items
 

@@ -1,6 +1,6 @@
 //! Core files out of one line.
 ghost use Rattle.std.specs.Prelude.{IfOk};
-ghost use Rattle.cdle_model.specs.Classes.{AreItems};
+ghost use Rattle.cdle_model.specs.Classes.{AreScoped};
 ghost use Rattle.core_check.specs.Items.{items_of};
 
 use core_text::{CoreScope, CoreTextFault, read_core};
@@ -12,7 +12,7 @@ const MOST_BYTES: usize = 10_000;
 
 /// The files between the bars, each behind the earlier ones.
 pub(crate) fn read_files(alloc: Global, texts: &str) -> Result<Vec<CoreFile>, CoreTextFault>
-    ensures { IfOk result (λ files. AreItems (items_of files.items)) }
+    ensures { IfOk result (λ files. AreScoped (items_of files.items)) }
 {
     let mut known = CoreScope::new(alloc);
     let mut files = Vec::new(alloc);

@@ -1,6 +1,6 @@
 //! The items over which the rows stand.
 ghost use Rattle.std.specs.Prelude.{◌≡◌, IfOk, List};
-ghost use Rattle.cdle_model.specs.Classes.{IsOver, item_sort, item_sorts};
+ghost use Rattle.cdle_model.specs.Classes.{IsScopedOver, item_sort, item_sorts};
 ghost use Rattle.cdle_model.specs.Fitting.{ItemHasErasures};
 ghost use Rattle.cdle_model.specs.Forms.{Written};
 ghost use Rattle.cdle_model.specs.declared.grammar.Sort.TheVariants.{OfTerm, OfType};
@@ -28,7 +28,7 @@ pub(crate) fn three_items(alloc: Global) -> Result<CheckedItems, NoMemory>
 
 /// The identity of all types.
 fn identity_item(alloc: Global, name: &str) -> Result<CoreItem, NoMemory>
-    ensures over { IfOk result (λ item. (es : List Written) → IsOver es (written item)) }
+    ensures over { IfOk result (λ item. (es : List Written) → IsScopedOver es (written item)) }
     ensures erasures { IfOk result (λ item. ItemHasErasures (written item)) }
     ensures sort { IfOk result (λ item. item_sort (written item) ≡ OfTerm) }
 {
@@ -48,7 +48,7 @@ fn identity_item(alloc: Global, name: &str) -> Result<CoreItem, NoMemory>
 
 /// The type function that maps a type to the type of its functions.
 fn doubling_item(alloc: Global) -> Result<CoreItem, NoMemory>
-    ensures over { IfOk result (λ item. (es : List Written) → IsOver es (written item)) }
+    ensures over { IfOk result (λ item. (es : List Written) → IsScopedOver es (written item)) }
     ensures erasures { IfOk result (λ item. ItemHasErasures (written item)) }
     ensures sort { IfOk result (λ item. item_sort (written item) ≡ OfType) }
 {

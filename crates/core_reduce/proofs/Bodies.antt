@@ -3,7 +3,7 @@ use Rattle.std.proofs.Common.{◌≡◌, ℕ, zero, suc, ◌<◌, List, [], ◌�
 use Rattle.std.proofs.lemmas.List.{append_assoc, append-nil}
 use Rattle.cdle_model.specs.declared.grammar.Sort.{Sort}
 use Rattle.cdle_model.specs.Forms.{Written}
-use Rattle.cdle_model.specs.Classes.{IsOver, AreOver, item_sort, item_sorts}
+use Rattle.cdle_model.specs.Classes.{IsScopedOver, AreScopedOver, item_sort, item_sorts}
 use Rattle.cdle_model.specs.Derivation.{bodies, signature}
 use Rattle.cdle_model.specs.Fitting.{ItemHasErasures, HaveErasures, class_of}
 use Rattle.core_tree.specs.declared.items.CoreItem.{CoreItem}
@@ -30,9 +30,9 @@ item_at (j ∷ is) (suc n) i l e = item_at is n i (omega arith) e
 
 -- ---- one more item
 
-over_more : (es ws : List Written) (w : Written) → AreOver es ws → IsOver (es ++ ws) w → AreOver es (ws ++ w ∷ [])
-over_more es [] w h k = (subst (λ z. IsOver z w) (append-nil es) k, tt)
-over_more es (x ∷ ws) w h k = (h.0, over_more (es ++ (x ∷ [])) ws w h.1 (subst (λ z. IsOver z w) (sym (append_assoc es (x ∷ []) ws)) k))
+over_more : (es ws : List Written) (w : Written) → AreScopedOver es ws → IsScopedOver (es ++ ws) w → AreScopedOver es (ws ++ w ∷ [])
+over_more es [] w h k = (subst (λ z. IsScopedOver z w) (append-nil es) k, tt)
+over_more es (x ∷ ws) w h k = (h.0, over_more (es ++ (x ∷ [])) ws w h.1 (subst (λ z. IsScopedOver z w) (sym (append_assoc es (x ∷ []) ws)) k))
 
 erasures_more : (ws : List Written) (w : Written) → HaveErasures ws → ItemHasErasures w → HaveErasures (ws ++ w ∷ [])
 erasures_more [] w h k = (k, tt)
@@ -42,7 +42,7 @@ bodies_more : (is : List CheckedItem) (i : CheckedItem) → HaveBodies is → Is
 bodies_more [] i h k = (k, tt)
 bodies_more (j ∷ is) i h k = (h.0, bodies_more is i h.1 k)
 
-pub checked_more : (is : List CheckedItem) (i : CheckedItem) (c : CoreItem) → AreChecked is → length is < 4294967295 → IsOver (items_of is) (written c) → ItemHasErasures (written c)
+pub checked_more : (is : List CheckedItem) (i : CheckedItem) (c : CoreItem) → AreChecked is → length is < 4294967295 → IsScopedOver (items_of is) (written c) → ItemHasErasures (written c)
     → written i.item ≡ written c → IsBody c i.body → AreChecked (is ++ i ∷ [])
 checked_more is i c h l over erasures same body = record {
   items = rw items_push (over_more [] (items_of is) (written i.item) h.items (rw same over));

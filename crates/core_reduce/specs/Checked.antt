@@ -1,7 +1,7 @@
 -- Items that were checked, and the erased bodies that are kept beside them.
 use Rattle.std.specs.Prelude.{◌≡◌, ◌≤◌, List, [], ◌∷◌, length}
 use Rattle.cdle_model.specs.Forms.{Written}
-use Rattle.cdle_model.specs.Classes.{AreItems}
+use Rattle.cdle_model.specs.Classes.{AreScoped}
 use Rattle.cdle_model.specs.Erasure.{erased}
 use Rattle.cdle_model.specs.Fitting.{HaveErasures}
 use Rattle.core_tree.specs.declared.items.CoreItem.{CoreItem}
@@ -27,7 +27,7 @@ HaveBodies (i ∷ is) = IsBody i.item i.body × HaveBodies is
 
 -- each item is over those before it, its erasures are defined, and its body is kept; and the items can be counted
 pub record AreChecked (is : List CheckedItem) : Type 0 where
-  pub items : AreItems (items_of is)
+  pub items : AreScoped (items_of is)
   pub erasures : HaveErasures (items_of is)
   pub bodies : HaveBodies is
   pub few : length is ≤ 4294967295

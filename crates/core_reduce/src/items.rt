@@ -1,6 +1,6 @@
 //! The items that were checked, with their erased bodies.
 ghost use Rattle.std.specs.Prelude.{◌≡◌, ◌++◌, ◌<◌, ◌∷◌, [], IfOk, MatchResult, Some, length, slice_get};
-ghost use Rattle.cdle_model.specs.Classes.{AreItems, IsOver, item_sorts};
+ghost use Rattle.cdle_model.specs.Classes.{AreScoped, IsScopedOver, item_sorts};
 ghost use Rattle.cdle_model.specs.Derivation.{bodies, signature};
 ghost use Rattle.cdle_model.specs.Fitting.{HaveErasures, ItemHasErasures, class_of};
 ghost use Rattle.cdle_model.specs.declared.grammar.Sort.{Sort};
@@ -54,7 +54,7 @@ impl CheckedItems {
 
     /// Puts the item last. After want of memory the items are as before.
     pub fn add(&mut self, alloc: Global, item: &CoreItem) -> Result<(), NoMemory>
-        requires over { IsOver self.old (written item.now) }
+        requires over { IsScopedOver self.old (written item.now) }
         requires erasures { ItemHasErasures (written item.now) }
         ensures { MatchResult result (λ _. self.new ≡ self.old ++ written item.now ∷ []) (λ _. self.new ≡ self.old) }
     {
@@ -85,7 +85,7 @@ impl CheckedItems {
 
     /// Tells a proof what is known of the items. It does nothing when it runs.
     pub fn known(&self)
-        ensures items { AreItems self.now }
+        ensures items { AreScoped self.now }
         ensures erasures { HaveErasures self.now }
     {
         let _ = &self.items;

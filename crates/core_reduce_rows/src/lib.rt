@@ -4,7 +4,7 @@
 #![tactic(auto)]
 
 ghost use Rattle.std.specs.Prelude.{◌≡◌, ◌≤◌, [], IfOk};
-ghost use Rattle.cdle_model.specs.Classes.{Fits, IsOver, item_sort, pure_terms, within};
+ghost use Rattle.cdle_model.specs.Classes.{Fits, IsScopedOver, item_sort, pure_terms, within};
 ghost use Rattle.cdle_model.specs.Depth.{depth};
 ghost use Rattle.cdle_model.specs.Fitting.{ItemHasErasures};
 ghost use Rattle.cdle_model.specs.declared.grammar.Sort.TheVariants.{OfTerm};
@@ -98,7 +98,7 @@ fn omega_with(alloc: Global, budget: &mut Budget) -> Result<bool, Stop> {
 
 /// The item `x`, which is the identity of the variable types.
 fn identity_item(alloc: Global) -> Result<CoreItem, NoMemory>
-    ensures over { IfOk result (λ item. IsOver [] (written item)) }
+    ensures over { IfOk result (λ item. IsScopedOver [] (written item)) }
     ensures erasures { IfOk result (λ item. ItemHasErasures (written item)) }
     ensures sort { IfOk result (λ item. item_sort (written item) ≡ OfTerm) }
 {

@@ -12,7 +12,7 @@ use Rattle.cdle_model.specs.declared.grammar.Piece.TheVariants.{Part as PartOf, 
 use Rattle.cdle_model.specs.CoreTokens.{Token}
 use Rattle.cdle_model.specs.CoreFaults.{TooDeep}
 use Rattle.cdle_model.specs.CoreGrammar.{made}
-use Rattle.cdle_model.specs.CoreNames.{Name, Names, under}
+use Rattle.cdle_model.specs.CoreNames.{Name, Names, names_under}
 use Rattle.cdle_model.specs.CoreReading.{◌>>=◌, Read, Reader, pieces_with, inside, part_at, form_with}
 use Rattle.core_text.specs.Parts.{AreShallow, class_of, classes, part_tree, trees}
 use Rattle.core_text.specs.View.{with_front}
@@ -45,7 +45,7 @@ module _ (read : Reader) (end left : ℕ) (scope : Names) (binder : Option Name)
       → with_front (trees parts) (pieces_with read end left scope binder (PartOf c ∷ ps) ts) ≡ with_front (trees more) (pieces_with read end left scope binder ps next)
   part_more c ps parts more p ts next e q = rw (e, q, map_push part_tree parts p) (append_read (pieces_with read end left scope binder ps next) (trees parts) (part_tree p))
 
-  pub under_more : (c : Class) (ps : List Piece) (parts more : List Part) (p : Part) (ts next : List Token) → read (under binder scope) c ts ≡ Ok (part_tree p, next) → more ≡ parts ++ p ∷ []
+  pub under_more : (c : Class) (ps : List Piece) (parts more : List Part) (p : Part) (ts next : List Token) → read (names_under binder scope) c ts ≡ Ok (part_tree p, next) → more ≡ parts ++ p ∷ []
       → with_front (trees parts) (pieces_with read end left scope binder (Under c ∷ ps) ts) ≡ with_front (trees more) (pieces_with read end left scope binder ps next)
   under_more c ps parts more p ts next e q = rw (e, q, map_push part_tree parts p) (append_read (pieces_with read end left scope binder ps next) (trees parts) (part_tree p))
 

@@ -1,6 +1,6 @@
 //! The table of the forms of Core text.
 ghost use Rattle.std.specs.Prelude.{◌≡◌, IfSome};
-ghost use Rattle.cdle_model.specs.CoreGrammar.{form_of, names_of, pieces, class_of_form};
+ghost use Rattle.cdle_model.specs.CoreGrammar.{form_of, name_sort, pieces, class_of_form};
 ghost use Rattle.cdle_model.specs.CoreNames.{same_sort};
 ghost use Rattle.cdle_model.specs.CoreFaults.{wanted_part};
 ghost use Rattle.cdle_model.specs.declared.grammar.Class.TheVariants as class;
@@ -23,7 +23,7 @@ pub(crate) fn wanted_of(class: Class) -> CoreWanted
 
 /// What a name stands for where a part of the class is wanted, if a name may stand there.
 pub(crate) fn sort_of_names(class: Class) -> Option<Sort>
-    ensures { result ≡ names_of class }
+    ensures { result ≡ name_sort class }
 {
     match class {
         Class::Kind | Class::GuideKind => None,

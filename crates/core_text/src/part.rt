@@ -1,6 +1,6 @@
 //! Parts of any class.
 ghost use Rattle.std.specs.Prelude.{◌≡◌, None, IfOk, IsTrue, is_some};
-ghost use Rattle.cdle_model.specs.CoreGrammar.{names_of};
+ghost use Rattle.cdle_model.specs.CoreGrammar.{name_sort};
 ghost use Rattle.cdle_model.specs.Forms.{star};
 ghost use Rattle.cdle_model.specs.Trees.{var, name};
 ghost use Rattle.cdle_model.specs.declared.grammar.Class.TheVariants as class;
@@ -26,7 +26,7 @@ pub(crate) enum Part {
 impl Part {
     /// `*`, where a class has it in the names' place.
     pub(crate) fn star(alloc: Global, class: Class) -> Result<Part, NoMemory>
-        requires { names_of class ≡ None }
+        requires { name_sort class ≡ None }
         ensures tree { IfOk result (λ p. part_tree p ≡ star) }
         ensures class { IfOk result (λ p. class_of p ≡ class) }
     {
@@ -39,7 +39,7 @@ impl Part {
 
     /// What a name stands for.
     pub(crate) fn named(alloc: Global, class: Class, meaning: Meaning) -> Result<Part, NoMemory>
-        requires { IsTrue (is_some (names_of class)) }
+        requires { IsTrue (is_some (name_sort class)) }
         ensures tree { IfOk result (λ p. part_tree p ≡ meant meaning) }
         ensures class { IfOk result (λ p. class_of p ≡ class) }
     {
@@ -50,7 +50,7 @@ impl Part {
     }
 
     fn var(alloc: Global, class: Class, index: u32) -> Result<Part, NoMemory>
-        requires { IsTrue (is_some (names_of class)) }
+        requires { IsTrue (is_some (name_sort class)) }
         ensures tree { IfOk result (λ p. part_tree p ≡ var index) }
         ensures class { IfOk result (λ p. class_of p ≡ class) }
     {
@@ -64,7 +64,7 @@ impl Part {
     }
 
     fn name(alloc: Global, class: Class, number: u32) -> Result<Part, NoMemory>
-        requires { IsTrue (is_some (names_of class)) }
+        requires { IsTrue (is_some (name_sort class)) }
         ensures tree { IfOk result (λ p. part_tree p ≡ name number) }
         ensures class { IfOk result (λ p. class_of p ≡ class) }
     {

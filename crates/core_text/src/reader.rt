@@ -3,7 +3,7 @@ ghost use Rattle.std.specs.Prelude.{◌≡◌, ◌+◌, ◌<◌, ◌≤◌, ◌^
 ghost use Rattle.std.specs.Str.{IsCharBoundary, IsUtf8};
 ghost use Rattle.cdle_model.specs.CoreReading.{leaf, part_at, form_with, item_at, item_behind};
 ghost use Rattle.cdle_model.specs.declared.grammar.Sort.TheVariants.{OfTerm, OfType};
-ghost use Rattle.cdle_model.specs.CoreNames.{under};
+ghost use Rattle.cdle_model.specs.CoreNames.{names_under};
 ghost use Rattle.cdle_model.specs.Depth.{depth};
 ghost use Rattle.core_tree.specs.Items.{written};
 ghost use Rattle.core_text.specs.View.{rest, Advances, Gives, IsAt, IsPlaced};
@@ -134,7 +134,7 @@ impl<'a> Reader<'a> {
         requires counted { length (known_names self.now.own.now) + length (known_names self.now.known.now) < 2 ^ 32 }
         requires nested { length (names binders.now) + left < 1024 }
         ensures gives { Gives (λ x. (part_tree x.0, rest self.now.bytes.now x.1)) result
-            (part_at (length self.now.bytes.now) left (under (binder_name binder.entry) (scope_of binders.now self.now.own.now self.now.known.now)) class (rest self.now.bytes.now from)) }
+            (part_at (length self.now.bytes.now) left (names_under (binder_name binder.entry) (scope_of binders.now self.now.own.now self.now.known.now)) class (rest self.now.bytes.now from)) }
         ensures advances { IfOk result (λ x. Advances self.now.bytes.now from x.1) }
         ensures placed { IfErr result (IsPlaced self.now.bytes.now) }
         ensures class { IfOk result (λ x. class_of x.0 ≡ class) }
