@@ -1,8 +1,8 @@
 -- The path of a real file, and what is taken of it.
-use Rattle.std.specs.Prelude.{◌≤◌, ◌<◌, ◌==◌, ◌++◌, ℕ, Bool, false, List, [], ◌∷◌, Option, if◌then◌else◌, length}
+use Rattle.std.specs.Prelude.{◌≤◌, ◌<◌, ◌==◌, ◌++◌, ℕ, Bool, false, List, [], ◌∷◌, Option, Result, Ok, Err, Vec, if◌then◌else◌, length}
 use Rattle.std.specs.Io.KnownBytes.{Consumes, IsAtEnd}
-use Rattle.cdle_folder.specs.declared.real.Taken.{Taken}
-use Rattle.cdle_folder.specs.declared.real.Taken.TheVariants.{Bytes, TooLong}
+use Rattle.cdle_folder.specs.declared.outside.ReadStop.{ReadStop}
+use Rattle.cdle_folder.specs.declared.outside.ReadStop.TheVariants.{TooLong}
 
 -- the name begins with `/`
 abbrev pub is_absolute : List ℕ → Bool
@@ -19,7 +19,7 @@ abbrev pub TakesMore : ℕ → Option (List ℕ) → Option (List ℕ) → Type 
 TakesMore limit old new = (bytes : List ℕ) × (limit < length bytes) × Consumes old new bytes
 
 -- what a reader has left before and after, where it tells that: bytes that are given are all that it had, and at most so many
-abbrev pub TakesAll : ℕ → Option (List ℕ) → Option (List ℕ) → Taken → Type 0
-TakesAll limit old new (Bytes bytes) = (length bytes.items ≤ limit) × Consumes old new bytes.items × IsAtEnd new
-TakesAll limit old new TooLong = TakesMore limit old new
-TakesAll limit old new _ = Unit {0}
+abbrev pub TakesAll : {Z : Type 0} → ℕ → Option (List ℕ) → Option (List ℕ) → Result (Vec ℕ Z) ReadStop → Type 0
+TakesAll limit old new (Ok bytes) = (length bytes.items ≤ limit) × Consumes old new bytes.items × IsAtEnd new
+TakesAll limit old new (Err TooLong) = TakesMore limit old new
+TakesAll limit old new (Err _) = Unit {0}

@@ -17,6 +17,3 @@ pub use outside::{Folder, PutFailed, ReadStop, Sink};
 pub use real::{DirFolder, StdSink};
 pub use sink::MemorySink;
 pub use sure::SureFolder;
-
-#[cfg(test)]
-mod tests;

@@ -1,5 +1,5 @@
 //! The real folder and the real output: nothing is told of what they hold.
-ghost use Rattle.std.specs.Prelude.{◌≡◌, None, IfOk, string_bytes};
+ghost use Rattle.std.specs.Prelude.{◌≡◌, ◌≤◌, None, IfOk, length, string_bytes};
 ghost use Rattle.cdle_folder.specs.Real.{TakesAll, path_in};
 
 use crate::outside::{Folder, PutFailed, ReadStop, Sink};
@@ -40,31 +40,35 @@ fn path_of(alloc: Global, dir: &str, name: &str) -> Result<String, AllocError>
     }
 }
 
-enum Taken {
-    Bytes(Vec<u8>),
-    TooLong,
-    Failed,
-    NoMemory,
-}
-
 // All that the file gives, where it gives at most `limit` bytes. A source that gives nothing has ended.
-fn take_all<F: Read>(alloc: Global, file: &mut F, limit: u64) -> Taken
+fn take_all<F: Read>(alloc: Global, file: &mut F, limit: u64) -> Result<Vec<u8>, ReadStop>
     ensures { TakesAll limit (F.remaining file.old) (F.remaining file.new) result }
 {
     let mut bytes = Vec::new(alloc);
     let mut chunk = [0u8; 4096];
     while bytes.len() as u64 <= limit {
         match file.read(&mut chunk) {
-            Ok(0) => return Taken::Bytes(bytes),
+            Ok(0) => return Ok(bytes),
             Ok(count) => {
                 if bytes.extend_from_slice(&chunk[..count]).is_err() {
-                    return Taken::NoMemory;
+                    return Err(ReadStop::NoMemory);
                 }
             }
-            Err(_) => return Taken::Failed,
+            Err(_) => return Err(ReadStop::Failed),
         }
     }
-    Taken::TooLong
+    Err(ReadStop::TooLong)
+}
+
+// All the bytes of the file of that path, where they are at most `limit`.
+fn read_path<R: Files>(rt: &R, alloc: Global, path: &str, limit: u64) -> Result<Vec<u8>, ReadStop>
+    ensures { IfOk result (λ bytes. length bytes.items ≤ limit) }
+{
+    match fs::open(rt, path) {
+        Ok(mut file) => take_all(alloc, &mut file, limit),
+        Err(error) if error.kind() == ErrorKind::NotFound => Err(ReadStop::Absent),
+        Err(_) => Err(ReadStop::Failed),
+    }
 }
 
 impl<'a, R: Files> Folder for DirFolder<'a, R> {
@@ -76,26 +80,13 @@ impl<'a, R: Files> Folder for DirFolder<'a, R> {
         let Ok(path) = path_of(alloc, self.dir.as_str(), name) else {
             return Err(ReadStop::NoMemory);
         };
-        let mut file = match fs::open(self.rt, path.as_str()) {
-            Ok(file) => file,
-            Err(error) => {
-                if error.kind() == ErrorKind::NotFound {
-                    self.absences = self.absences.saturating_add(1);
-                    return Err(ReadStop::Absent);
-                }
-                self.read_faults = self.read_faults.saturating_add(1);
-                return Err(ReadStop::Failed);
-            }
-        };
-        match take_all(alloc, &mut file, limit) {
-            Taken::Bytes(bytes) => Ok(bytes),
-            Taken::TooLong => Err(ReadStop::TooLong),
-            Taken::NoMemory => Err(ReadStop::NoMemory),
-            Taken::Failed => {
-                self.read_faults = self.read_faults.saturating_add(1);
-                Err(ReadStop::Failed)
-            }
+        let answer = read_path(self.rt, alloc, path.as_str(), limit);
+        match &answer {
+            Err(ReadStop::Absent) => self.absences = self.absences.saturating_add(1),
+            Err(ReadStop::Failed) => self.read_faults = self.read_faults.saturating_add(1),
+            _ => {}
         }
+        answer
     }
 }
 

@@ -18,6 +18,3 @@ pub struct Span {
     pub from: u32,
     pub to: u32,
 }
-
-#[cfg(test)]
-mod tests;

@@ -40,14 +40,12 @@ fn command<'a>(alloc: Global, name: &'a str) -> Result<Command<'a>, Error>
     ensures shape { IfOk result (λ c. app_of c ≡ words_app name.entry.now) }
     ensures memory { IfErr result (λ e. kind_of e ≡ ErrorKind.OutOfMemory) }
 {
-    let budget = Arg::new(alloc, "budget").long("budget");
-    let value = Arg::new(alloc, "value").action(ArgAction::Append);
     let command = Command::new(alloc, name)
         .disable_help_flag(true)
         .disable_version_flag(true)
-        .arg(budget)?
-        .arg(value)?;
-    Ok(command)
+        .arg(Arg::new(alloc, "budget").long("budget"))?;
+    let value = Arg::new(alloc, "value").action(ArgAction::Append);
+    Ok(command.arg(value)?)
 }
 
 /// What the parser found.

@@ -11,6 +11,3 @@ mod given;
 mod number;
 
 pub use asked::{Asked, WordsFault, command_asked};
-
-#[cfg(test)]
-mod tests;
