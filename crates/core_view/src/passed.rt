@@ -1,0 +1,209 @@
+//! The places in which the numbering of a written term and that of its erasure differ.
+ghost use Rattle.std.specs.Prelude.{◌≡◌, ◌∷◌, [], IfOk, true};
+ghost use Rattle.cdle_model.specs.Classes.{IsOf, pure_terms};
+ghost use Rattle.cdle_model.specs.Forms.{star};
+ghost use Rattle.cdle_model.specs.Erasure.{lowered};
+ghost use Rattle.cdle_model.specs.Trees.{Tree, lacks, put, shift};
+ghost use Rattle.core_view.specs.Passed.{IsAbove, IsNumber, renumbered};
+
+use cdle_model::NoMemory;
+use core_tree::Pure;
+use std::alloc::{AllocError, Global};
+use std::marker::Model;
+use std::rc::Rc;
+
+/// The erased binders that were passed and the new variables, the innermost first. Contracts see a list of places.
+#[cycle(passed)]
+#[derive(Drop)]
+pub(crate) struct Passed {
+    first: Places,
+}
+
+#[cycle(passed)]
+#[derive(Drop)]
+enum Places {
+    End,
+    /// After so many kept binders, an erased one, or so many new variables where that is not 0; and the places outside.
+    Place(u32, u32, Rc<Passed>),
+}
+
+impl Model for Passed {
+    ghost use Rattle.std.specs.Prelude.{List, length};
+    ghost use Rattle.core_view.specs.Passed.{Place};
+
+    ghost Value = { List Place };
+
+    ghost use Rattle.core_view.specs.Places.{places};
+
+    ghost view = { λ a. places a.first };
+
+    ghost size = { length };
+
+    ghost use Rattle.std.proofs.Common.{arith};
+
+    ghost size_decreases = { λ a h. Prim.grind arith };
+}
+
+impl Passed {
+    /// No places.
+    pub(crate) fn none() -> Passed
+        ensures { result ≡ [] }
+    {
+        Passed { first: Places::End }
+    }
+
+    /// The same places, shared.
+    pub(crate) fn share(&self) -> Result<Passed, NoMemory>
+        ensures { IfOk result (λ p. p ≡ self.now) }
+    {
+        match &self.first {
+            Places::End => Ok(Passed::none()),
+            Places::Place(kept, new, outer) => Passed::place(*kept, *new, outer),
+        }
+    }
+
+    fn place(kept: u32, new: u32, outer: &Rc<Passed>) -> Result<Passed, NoMemory>
+        ensures { IfOk result (λ p. p ≡ (kept, new) ∷ outer.now.value) }
+    {
+        match outer.clone() {
+            Ok(outer) => Ok(Passed {
+                first: Places::Place(kept, new, outer),
+            }),
+            Err(_) => Err(NoMemory),
+        }
+    }
+
+    /// The places as they are under one more binder that is kept.
+    #[tactic(auto, using(crate::proofs::Numbers::under_kept))]
+    pub(crate) fn kept(&self) -> Result<Passed, NoMemory>
+        ensures { IfOk result (λ p. (t : Tree) → renumbered 0 p t ≡ renumbered 1 self.now t) }
+    {
+        match &self.first {
+            Places::End => Ok(Passed::none()),
+            Places::Place(kept, new, outer) => match kept.checked_add(1) {
+                Some(kept) => Passed::place(kept, *new, outer),
+                None => Err(NoMemory),
+            },
+        }
+    }
+
+    /// The places with that of an erased binder inside all others.
+    pub(crate) fn erased(&self, alloc: Global) -> Result<Passed, NoMemory>
+        ensures { IfOk result (λ p. (t : Tree) → renumbered 0 p t ≡ renumbered 0 self.now (lowered t)) }
+    {
+        let outer = Rc::new(alloc, self.share()?)?;
+        Ok(Passed {
+            first: Places::Place(0, 0, outer),
+        })
+    }
+
+    /// The places with a new variable inside all others.
+    #[tactic(auto, using(crate::proofs::Numbers::raising))]
+    pub(crate) fn raised(&self, alloc: Global) -> Result<Passed, NoMemory>
+        ensures { IfOk result (λ p. (t : Tree) → renumbered 0 p t ≡ shift 0 1 (renumbered 0 self.now t)) }
+    {
+        if let Places::Place(0, new, outer) = &self.first {
+            if *new > 0 && *new < 4_294_967_295 {
+                return Passed::place(0, *new + 1, outer);
+            }
+        }
+        let outer = Rc::new(alloc, self.share()?)?;
+        Ok(Passed {
+            first: Places::Place(0, 1, outer),
+        })
+    }
+
+    /// The pure term, in which the variables from `from` on are so numbered, as a tree of its own nodes.
+    #[tactic(auto, using(crate::proofs::Numbers::carrying))]
+    pub(crate) fn carried(&self, alloc: Global, from: u32, term: &Pure) -> Result<Pure, NoMemory>
+        requires { IsOf pure_terms (renumbered from self.now term.now) }
+        ensures { IfOk result (λ t. t ≡ renumbered from self.now term.now) }
+    {
+        match &self.first {
+            Places::End => Ok(term.clone()?),
+            Places::Place(kept, new, outer) => {
+                term.known();
+                let Some(at) = from.checked_add(*kept) else {
+                    return Err(NoMemory);
+                };
+                if *new == 0 {
+                    let term = without(alloc, at, term)?;
+                    outer.carried(alloc, at, &term)
+                } else {
+                    let Some(beyond) = at.checked_add(*new) else {
+                        return Err(NoMemory);
+                    };
+                    let term = lifted(alloc, at, *new, term)?;
+                    outer.carried(alloc, beyond, &term)
+                }
+            }
+        }
+    }
+
+    /// The number that a variable has without the erased binders and over the new variables, or none where it is an erased binder's.
+    #[tactic(auto, using(crate::proofs::Numbers::numbering))]
+    pub(crate) fn number(&self, index: u32) -> Result<Option<u32>, NoMemory>
+        ensures { IfOk result (λ o. IsNumber self.now index o) }
+    {
+        match &self.first {
+            Places::End => Ok(Some(index)),
+            Places::Place(kept, new, outer) => {
+                if index < *kept {
+                    return Ok(Some(index));
+                }
+                let beyond = index - *kept;
+                if *new == 0 {
+                    if beyond == 0 {
+                        return Ok(None);
+                    }
+                    let found = outer.number(beyond - 1)?;
+                    above(found, *kept)
+                } else {
+                    let found = outer.number(beyond)?;
+                    above(above(found, *kept)?, *new)
+                }
+            }
+        }
+    }
+}
+
+/// The number so many higher.
+fn above(found: Option<u32>, by: u32) -> Result<Option<u32>, NoMemory>
+    ensures { IfOk result (λ o. IsAbove found by o) }
+{
+    match found {
+        Some(index) => match index.checked_add(by) {
+            Some(index) => Ok(Some(index)),
+            None => Err(NoMemory),
+        },
+        None => Ok(None),
+    }
+}
+
+/// The pure term without the variable of that number, which is not in it.
+#[tactic(auto, using(crate::proofs::Numbers::moving))]
+fn without(alloc: Global, at: u32, term: &Pure) -> Result<Pure, NoMemory>
+    requires { lacks at term.now ≡ true }
+    ensures { IfOk result (λ t. t ≡ put at star term.now) }
+{
+    term.known();
+    let any = Pure::var(alloc, 0)?;
+    match term.put_pure(alloc, at, &any) {
+        Ok(term) => Ok(term),
+        Err(_) => Err(NoMemory),
+    }
+}
+
+/// The pure term over so many new variables from that number on.
+#[tactic(auto, using(crate::proofs::Numbers::moving))]
+fn lifted(alloc: Global, at: u32, by: u32, term: &Pure) -> Result<Pure, NoMemory>
+    ensures { IfOk result (λ t. t ≡ shift at by term.now) }
+{
+    term.known();
+    // Asked for its bound alone.
+    let _depth = term.depth();
+    if term.free() > 4_290_000_000 || by > 4_900_000 {
+        return Err(NoMemory);
+    }
+    term.shift(alloc, at, by)
+}
