@@ -3,14 +3,22 @@ ghost use Rattle.std.specs.Prelude.{◌≡◌, ◌≤◌, IfOk};
 ghost use Rattle.cdle_model.specs.Depth.{depth};
 ghost use Rattle.cdle_model.specs.Classes.{IsOf, UsedAs, guide_kinds, guides};
 ghost use Rattle.cdle_model.specs.Erasure.{HasErasure, erased};
+ghost use Rattle.cdle_model.specs.Forms.{allt, at_, eq, on};
 ghost use Rattle.cdle_model.specs.Trees.{IsBelow, put};
 ghost use Rattle.cdle_model.specs.declared.grammar.Sort.TheVariants.{OfTerm, OfType};
 ghost use Rattle.core_tree.specs.Nodes.{PutGives};
+ghost use Rattle.core_view.specs.Parts.{part_sort, part_tree};
+ghost use Rattle.core_view.specs.Products.{product_tree};
 ghost use Rattle.core_view.specs.Readings.{IsGuideTop, guide_view_tree, kind_view_tree};
 
+use crate::guide_put::put_type;
+use crate::part::Part;
+use crate::product::Product;
 use crate::pure_view::PureView;
 use cdle_model::NoMemory;
-use core_tree::{Guide, GuideForm, GuideKind, GuideKindForm, Kind, KindForm, PutStop, Ty, TyForm};
+use core_tree::{
+    Guide, GuideForm, GuideKind, GuideKindForm, Kind, KindForm, Pure, PutStop, Term, Ty, TyForm,
+};
 use std::alloc::Global;
 use std::marker::Model;
 
@@ -214,28 +222,47 @@ impl GuideView {
     }
 
     /// Puts the part for the variable 0, and lowers the other free variables by one.
+    #[tactic(auto, using(crate::proofs::Puts::entering))]
     pub fn put_pure(&self, alloc: Global, part: &PureView) -> Result<Guide, PutStop>
         requires used { UsedAs OfTerm 0 guides self.now }
         requires below { IsBelow 4290000000 part.now }
         ensures { PutGives (put 0 part.now self.now) result }
     {
         let part = part.whole(alloc)?;
-        let tree = self.whole(alloc)?;
-        tree.put_pure(alloc, 0, &part)
+        match &self.node {
+            GuideNode::Written(ty) => put_written_type(alloc, ty, &Part::Pure(&part)),
+            GuideNode::Built(guide) => guide.put_pure(alloc, 0, &part),
+        }
     }
 
     /// Puts the part for the variable 0, and lowers the other free variables by one.
+    #[tactic(auto, using(crate::proofs::Puts::entering))]
     pub fn put_guide(&self, alloc: Global, part: &GuideView) -> Result<Guide, PutStop>
         requires used { UsedAs OfType 0 guides self.now }
         requires below { IsBelow 4290000000 part.now }
         ensures { PutGives (put 0 part.now self.now) result }
     {
         let part = part.whole(alloc)?;
-        let tree = self.whole(alloc)?;
-        tree.put_guide(alloc, 0, &part)
+        match &self.node {
+            GuideNode::Written(ty) => put_written_type(alloc, ty, &Part::Guide(&part)),
+            GuideNode::Built(guide) => guide.put_guide(alloc, 0, &part),
+        }
     }
 }
 
+/// The type's erasure with the part for the variable 0.
+#[tactic(auto, using(crate::proofs::Puts::entering))]
+fn put_written_type(alloc: Global, ty: &Ty, part: &Part<'_>) -> Result<Guide, PutStop>
+    requires used { UsedAs (part_sort part.now) 0 guides (erased ty.now) }
+    requires below { IsBelow 4290000000 (part_tree part.now) }
+    ensures { PutGives (put 0 (part_tree part.now) (erased ty.now)) result }
+{
+    // Asked for its bound alone.
+    let _depth = ty.depth();
+    put_type(alloc, ty, 0, part)
+}
+
+/// The head of the type's erasure, with its parts.
 fn written_form(alloc: Global, ty: &Ty) -> Result<GuideViewForm, NoMemory>
     requires { HasErasure ty.now }
     ensures { IfOk result (λ f. guide_view_tree f ≡ erased ty.now) }
@@ -243,75 +270,124 @@ fn written_form(alloc: Global, ty: &Ty) -> Result<GuideViewForm, NoMemory>
     match ty.form() {
         TyForm::Var(index) => Ok(GuideViewForm::Var(*index)),
         TyForm::Name(item) => Ok(GuideViewForm::Name(*item)),
-        TyForm::Pi(domain, part) => Ok(GuideViewForm::Pi(
-            GuideView::of_type(domain)?,
-            GuideView::of_type(part)?,
-        )),
-        TyForm::All(domain, part) => Ok(GuideViewForm::All(
-            GuideView::of_type(domain)?,
-            GuideView::of_type(part)?,
-        )),
-        TyForm::Allt(domain, part) => Ok(GuideViewForm::Allt(
-            KindView::of_kind(alloc, domain)?,
-            GuideView::of_type(part)?,
-        )),
+        TyForm::Pi(domain, part) => written_product(Product::Pi, domain, part),
+        TyForm::All(domain, part) => written_product(Product::All, domain, part),
+        TyForm::Allt(domain, part) => written_allt(alloc, domain, part),
         TyForm::Tlam(_, part) => Ok(GuideViewForm::Tlam(GuideView::of_type(part)?)),
         TyForm::Xtlam(_, part) => Ok(GuideViewForm::Xtlam(GuideView::of_type(part)?)),
-        TyForm::At(head, arg) => Ok(GuideViewForm::At(
-            GuideView::of_type(head)?,
-            PureView::of_term(arg)?,
-        )),
-        TyForm::On(head, arg) => Ok(GuideViewForm::On(
-            GuideView::of_type(head)?,
-            GuideView::of_type(arg)?,
-        )),
-        TyForm::Iota(left, right) => Ok(GuideViewForm::Iota(
-            GuideView::of_type(left)?,
-            GuideView::of_type(right)?,
-        )),
-        TyForm::Eq(left, right) => Ok(GuideViewForm::Eq(
-            PureView::of_pure(left)?,
-            PureView::of_pure(right)?,
-        )),
+        TyForm::At(head, arg) => written_at(head, arg),
+        TyForm::On(head, arg) => written_on(head, arg),
+        TyForm::Iota(left, right) => written_product(Product::Iota, left, right),
+        TyForm::Eq(left, right) => eq_form(left, right),
     }
 }
 
+fn written_product(product: Product, domain: &Ty, part: &Ty) -> Result<GuideViewForm, NoMemory>
+    requires domain { HasErasure domain.now }
+    requires part { HasErasure part.now }
+    ensures { IfOk result (λ f. guide_view_tree f ≡ product_tree product (erased domain.now) (erased part.now)) }
+{
+    let domain = GuideView::of_type(domain)?;
+    let part = GuideView::of_type(part)?;
+    Ok(product_form(product, domain, part))
+}
+
+fn written_allt(alloc: Global, domain: &Kind, part: &Ty) -> Result<GuideViewForm, NoMemory>
+    requires domain { HasErasure domain.now }
+    requires part { HasErasure part.now }
+    ensures { IfOk result (λ f. guide_view_tree f ≡ allt (erased domain.now) (erased part.now)) }
+{
+    let domain = KindView::of_kind(alloc, domain)?;
+    let part = GuideView::of_type(part)?;
+    Ok(GuideViewForm::Allt(domain, part))
+}
+
+fn written_at(head: &Ty, arg: &Term) -> Result<GuideViewForm, NoMemory>
+    requires head { HasErasure head.now }
+    requires arg { HasErasure arg.now }
+    ensures { IfOk result (λ f. guide_view_tree f ≡ at_ (erased head.now) (erased arg.now)) }
+{
+    let head = GuideView::of_type(head)?;
+    let arg = PureView::of_term(arg)?;
+    Ok(GuideViewForm::At(head, arg))
+}
+
+fn written_on(head: &Ty, arg: &Ty) -> Result<GuideViewForm, NoMemory>
+    requires head { HasErasure head.now }
+    requires arg { HasErasure arg.now }
+    ensures { IfOk result (λ f. guide_view_tree f ≡ on (erased head.now) (erased arg.now)) }
+{
+    let head = GuideView::of_type(head)?;
+    let arg = GuideView::of_type(arg)?;
+    Ok(GuideViewForm::On(head, arg))
+}
+
+/// The head of the erased type, with its parts.
 fn built_form(guide: &Guide) -> Result<GuideViewForm, NoMemory>
     ensures { IfOk result (λ f. guide_view_tree f ≡ guide.now) }
 {
     match guide.form() {
         GuideForm::Var(index) => Ok(GuideViewForm::Var(*index)),
         GuideForm::Name(item) => Ok(GuideViewForm::Name(*item)),
-        GuideForm::Pi(domain, part) => Ok(GuideViewForm::Pi(
-            GuideView::of_guide(domain)?,
-            GuideView::of_guide(part)?,
-        )),
-        GuideForm::All(domain, part) => Ok(GuideViewForm::All(
-            GuideView::of_guide(domain)?,
-            GuideView::of_guide(part)?,
-        )),
-        GuideForm::Allt(domain, part) => Ok(GuideViewForm::Allt(
-            KindView::of_guide_kind(domain)?,
-            GuideView::of_guide(part)?,
-        )),
+        GuideForm::Pi(domain, part) => built_product(Product::Pi, domain, part),
+        GuideForm::All(domain, part) => built_product(Product::All, domain, part),
+        GuideForm::Allt(domain, part) => built_allt(domain, part),
         GuideForm::Tlam(part) => Ok(GuideViewForm::Tlam(GuideView::of_guide(part)?)),
         GuideForm::Xtlam(part) => Ok(GuideViewForm::Xtlam(GuideView::of_guide(part)?)),
-        GuideForm::At(head, arg) => Ok(GuideViewForm::At(
-            GuideView::of_guide(head)?,
-            PureView::of_pure(arg)?,
-        )),
-        GuideForm::On(head, arg) => Ok(GuideViewForm::On(
-            GuideView::of_guide(head)?,
-            GuideView::of_guide(arg)?,
-        )),
-        GuideForm::Iota(left, right) => Ok(GuideViewForm::Iota(
-            GuideView::of_guide(left)?,
-            GuideView::of_guide(right)?,
-        )),
-        GuideForm::Eq(left, right) => Ok(GuideViewForm::Eq(
-            PureView::of_pure(left)?,
-            PureView::of_pure(right)?,
-        )),
+        GuideForm::At(head, arg) => built_at(head, arg),
+        GuideForm::On(head, arg) => built_on(head, arg),
+        GuideForm::Iota(left, right) => built_product(Product::Iota, left, right),
+        GuideForm::Eq(left, right) => eq_form(left, right),
+    }
+}
+
+fn built_product(product: Product, domain: &Guide, part: &Guide) -> Result<GuideViewForm, NoMemory>
+    ensures { IfOk result (λ f. guide_view_tree f ≡ product_tree product domain.now part.now) }
+{
+    let domain = GuideView::of_guide(domain)?;
+    let part = GuideView::of_guide(part)?;
+    Ok(product_form(product, domain, part))
+}
+
+fn built_allt(domain: &GuideKind, part: &Guide) -> Result<GuideViewForm, NoMemory>
+    ensures { IfOk result (λ f. guide_view_tree f ≡ allt domain.now part.now) }
+{
+    let domain = KindView::of_guide_kind(domain)?;
+    let part = GuideView::of_guide(part)?;
+    Ok(GuideViewForm::Allt(domain, part))
+}
+
+fn built_at(head: &Guide, arg: &Pure) -> Result<GuideViewForm, NoMemory>
+    ensures { IfOk result (λ f. guide_view_tree f ≡ at_ head.now arg.now) }
+{
+    let head = GuideView::of_guide(head)?;
+    let arg = PureView::of_pure(arg)?;
+    Ok(GuideViewForm::At(head, arg))
+}
+
+fn built_on(head: &Guide, arg: &Guide) -> Result<GuideViewForm, NoMemory>
+    ensures { IfOk result (λ f. guide_view_tree f ≡ on head.now arg.now) }
+{
+    let head = GuideView::of_guide(head)?;
+    let arg = GuideView::of_guide(arg)?;
+    Ok(GuideViewForm::On(head, arg))
+}
+
+fn eq_form(left: &Pure, right: &Pure) -> Result<GuideViewForm, NoMemory>
+    ensures { IfOk result (λ f. guide_view_tree f ≡ eq left.now right.now) }
+{
+    let left = PureView::of_pure(left)?;
+    let right = PureView::of_pure(right)?;
+    Ok(GuideViewForm::Eq(left, right))
+}
+
+fn product_form(product: Product, domain: GuideView, part: GuideView) -> GuideViewForm
+    ensures { guide_view_tree result ≡ product_tree product domain part }
+{
+    match product {
+        Product::Pi => GuideViewForm::Pi(domain, part),
+        Product::All => GuideViewForm::All(domain, part),
+        Product::Iota => GuideViewForm::Iota(domain, part),
     }
 }
 
@@ -376,28 +452,8 @@ impl KindView {
         ensures { IfOk result (λ f. kind_view_tree f ≡ self.now) }
     {
         match &self.node {
-            KindNode::Written(kind, alloc) => match kind.form() {
-                KindForm::Star => Ok(KindViewForm::Star),
-                KindForm::Kpi(domain, part) => Ok(KindViewForm::Kpi(
-                    GuideView::of_type(domain)?,
-                    KindView::of_kind(*alloc, part)?,
-                )),
-                KindForm::Kpit(domain, part) => Ok(KindViewForm::Kpit(
-                    KindView::of_kind(*alloc, domain)?,
-                    KindView::of_kind(*alloc, part)?,
-                )),
-            },
-            KindNode::Built(kind) => match kind.form() {
-                GuideKindForm::Star => Ok(KindViewForm::Star),
-                GuideKindForm::Kpi(domain, part) => Ok(KindViewForm::Kpi(
-                    GuideView::of_guide(domain)?,
-                    KindView::of_guide_kind(part)?,
-                )),
-                GuideKindForm::Kpit(domain, part) => Ok(KindViewForm::Kpit(
-                    KindView::of_guide_kind(domain)?,
-                    KindView::of_guide_kind(part)?,
-                )),
-            },
+            KindNode::Written(kind, alloc) => written_kind_form(*alloc, kind),
+            KindNode::Built(kind) => built_kind_form(kind),
         }
     }
 
@@ -408,6 +464,45 @@ impl KindView {
         match &self.node {
             KindNode::Written(kind, alloc) => kind.erase(*alloc),
             KindNode::Built(kind) => Ok(kind.clone()?),
+        }
+    }
+}
+
+/// The head of the kind's erasure, with its parts.
+fn written_kind_form(alloc: Global, kind: &Kind) -> Result<KindViewForm, NoMemory>
+    requires { HasErasure kind.now }
+    ensures { IfOk result (λ f. kind_view_tree f ≡ erased kind.now) }
+{
+    match kind.form() {
+        KindForm::Star => Ok(KindViewForm::Star),
+        KindForm::Kpi(domain, part) => {
+            let domain = GuideView::of_type(domain)?;
+            let part = KindView::of_kind(alloc, part)?;
+            Ok(KindViewForm::Kpi(domain, part))
+        }
+        KindForm::Kpit(domain, part) => {
+            let domain = KindView::of_kind(alloc, domain)?;
+            let part = KindView::of_kind(alloc, part)?;
+            Ok(KindViewForm::Kpit(domain, part))
+        }
+    }
+}
+
+/// The head of the erased kind, with its parts.
+fn built_kind_form(kind: &GuideKind) -> Result<KindViewForm, NoMemory>
+    ensures { IfOk result (λ f. kind_view_tree f ≡ kind.now) }
+{
+    match kind.form() {
+        GuideKindForm::Star => Ok(KindViewForm::Star),
+        GuideKindForm::Kpi(domain, part) => {
+            let domain = GuideView::of_guide(domain)?;
+            let part = KindView::of_guide_kind(part)?;
+            Ok(KindViewForm::Kpi(domain, part))
+        }
+        GuideKindForm::Kpit(domain, part) => {
+            let domain = KindView::of_guide_kind(domain)?;
+            let part = KindView::of_guide_kind(part)?;
+            Ok(KindViewForm::Kpit(domain, part))
         }
     }
 }

@@ -1,9 +1,8 @@
 //! The places in which the numbering of a written term and that of its erasure differ.
-ghost use Rattle.std.specs.Prelude.{◌≡◌, ◌∷◌, [], IfOk, true};
+ghost use Rattle.std.specs.Prelude.{◌≡◌, ◌∷◌, [], IfOk, IsTrue};
 ghost use Rattle.cdle_model.specs.Classes.{IsOf, pure_terms};
-ghost use Rattle.cdle_model.specs.Forms.{star};
 ghost use Rattle.cdle_model.specs.Erasure.{lowered};
-ghost use Rattle.cdle_model.specs.Trees.{Tree, lacks, put, shift};
+ghost use Rattle.cdle_model.specs.Trees.{Tree, shift, var};
 ghost use Rattle.core_view.specs.Passed.{IsAbove, IsNumber, renumbered};
 
 use cdle_model::NoMemory;
@@ -50,6 +49,13 @@ impl Passed {
         ensures { result ≡ [] }
     {
         Passed { first: Places::End }
+    }
+
+    /// Whether there are no places.
+    pub(crate) fn is_none(&self) -> bool
+        ensures { IsTrue result → self.now ≡ [] }
+    {
+        matches!(&self.first, Places::End)
     }
 
     /// The same places, shared.
@@ -113,36 +119,31 @@ impl Passed {
         })
     }
 
-    /// The pure term, in which the variables from `from` on are so numbered, as a tree of its own nodes.
-    #[tactic(auto, using(crate::proofs::Numbers::carrying))]
-    pub(crate) fn carried(&self, alloc: Global, from: u32, term: &Pure) -> Result<Pure, NoMemory>
-        requires { IsOf pure_terms (renumbered from self.now term.now) }
-        ensures { IfOk result (λ t. t ≡ renumbered from self.now term.now) }
+    /// Whether the pure term stays as it is, because no place is below one of its free variables. It tells only of the innermost place.
+    #[tactic(auto, using(crate::proofs::Numbers::sparing))]
+    pub(crate) fn spares(&self, term: &Pure) -> bool
+        ensures { IsTrue result → renumbered 0 self.now term.now ≡ term.now }
     {
         match &self.first {
-            Places::End => Ok(term.clone()?),
-            Places::Place(kept, new, outer) => {
-                term.known();
-                let Some(at) = from.checked_add(*kept) else {
-                    return Err(NoMemory);
-                };
-                if *new == 0 {
-                    let term = without(alloc, at, term)?;
-                    outer.carried(alloc, at, &term)
-                } else {
-                    let Some(beyond) = at.checked_add(*new) else {
-                        return Err(NoMemory);
-                    };
-                    let term = lifted(alloc, at, *new, term)?;
-                    outer.carried(alloc, beyond, &term)
-                }
-            }
+            Places::End => true,
+            Places::Place(kept, _, _) => term.free() <= *kept as u64,
+        }
+    }
+
+    /// The number that a variable of a pure term has without the erased binders and over the new variables.
+    pub(crate) fn number(&self, index: u32) -> Result<u32, NoMemory>
+        requires { IsOf pure_terms (renumbered 0 self.now (var index)) }
+        ensures { IfOk result (λ i. renumbered 0 self.now (var index) ≡ var i) }
+    {
+        match self.find(index)? {
+            Some(number) => Ok(number),
+            None => unreachable!(),
         }
     }
 
     /// The number that a variable has without the erased binders and over the new variables, or none where it is an erased binder's.
     #[tactic(auto, using(crate::proofs::Numbers::numbering))]
-    pub(crate) fn number(&self, index: u32) -> Result<Option<u32>, NoMemory>
+    fn find(&self, index: u32) -> Result<Option<u32>, NoMemory>
         ensures { IfOk result (λ o. IsNumber self.now index o) }
     {
         match &self.first {
@@ -156,10 +157,10 @@ impl Passed {
                     if beyond == 0 {
                         return Ok(None);
                     }
-                    let found = outer.number(beyond - 1)?;
+                    let found = outer.find(beyond - 1)?;
                     above(found, *kept)
                 } else {
-                    let found = outer.number(beyond)?;
+                    let found = outer.find(beyond)?;
                     above(above(found, *kept)?, *new)
                 }
             }
@@ -178,32 +179,4 @@ fn above(found: Option<u32>, by: u32) -> Result<Option<u32>, NoMemory>
         },
         None => Ok(None),
     }
-}
-
-/// The pure term without the variable of that number, which is not in it.
-#[tactic(auto, using(crate::proofs::Numbers::moving))]
-fn without(alloc: Global, at: u32, term: &Pure) -> Result<Pure, NoMemory>
-    requires { lacks at term.now ≡ true }
-    ensures { IfOk result (λ t. t ≡ put at star term.now) }
-{
-    term.known();
-    let any = Pure::var(alloc, 0)?;
-    match term.put_pure(alloc, at, &any) {
-        Ok(term) => Ok(term),
-        Err(_) => Err(NoMemory),
-    }
-}
-
-/// The pure term over so many new variables from that number on.
-#[tactic(auto, using(crate::proofs::Numbers::moving))]
-fn lifted(alloc: Global, at: u32, by: u32, term: &Pure) -> Result<Pure, NoMemory>
-    ensures { IfOk result (λ t. t ≡ shift at by term.now) }
-{
-    term.known();
-    // Asked for its bound alone.
-    let _depth = term.depth();
-    if term.free() > 4_290_000_000 || by > 4_900_000 {
-        return Err(NoMemory);
-    }
-    term.shift(alloc, at, by)
 }

@@ -3,14 +3,18 @@ ghost use Rattle.std.specs.Prelude.{◌≡◌, ◌≤◌, [], IfOk};
 ghost use Rattle.cdle_model.specs.Depth.{depth};
 ghost use Rattle.cdle_model.specs.Classes.{IsOf, UsedAs, pure_terms};
 ghost use Rattle.cdle_model.specs.Erasure.{HasErasure, erased};
+ghost use Rattle.cdle_model.specs.Forms.{ap, fn};
 ghost use Rattle.cdle_model.specs.Trees.{IsBelow, put, shift, var};
 ghost use Rattle.cdle_model.specs.declared.grammar.Sort.TheVariants.{OfTerm};
 ghost use Rattle.core_tree.specs.Nodes.{PutGives};
 ghost use Rattle.core_view.specs.Passed.{renumbered};
-ghost use Rattle.core_view.specs.Readings.{IsTop, pure_view_tree};
+ghost use Rattle.core_view.specs.Readings.{IsRead, IsTop, node_tree, pure_view_tree};
 
 use crate::erasure::{Erased, view};
+use crate::part::Part;
 use crate::passed::Passed;
+use crate::pure_put::{put_built, put_variable, put_written};
+use crate::whole::{whole_built, whole_variable, whole_written};
 use cdle_model::NoMemory;
 use core_tree::{Pure, PureForm, PutStop, Term};
 use std::alloc::{AllocError, Global};
@@ -57,15 +61,25 @@ impl Model for PureView {
 
     ghost coded = { coded_tree };
 
-    ghost use Rattle.std.specs.Prelude.{◌≤◌};
-    ghost use Rattle.cdle_model.specs.Depth.{depth};
-    ghost use Rattle.cdle_model.specs.Classes.{IsOf, pure_terms};
     ghost use Rattle.core_view.specs.Passed.{renumbered};
-    ghost use Rattle.core_view.specs.Readings.{node_tree};
+    ghost use Rattle.core_view.specs.Readings.{IsRead, node_tree};
 
     ghost view = { λ a. renumbered 0 a.passed (node_tree a.node) };
 
-    ghost invariant = { λ a. IsOf pure_terms (renumbered 0 a.passed (node_tree a.node)) × (depth (renumbered 0 a.passed (node_tree a.node)) ≤ 65535) };
+    ghost invariant = { λ a. IsRead (renumbered 0 a.passed (node_tree a.node)) };
+}
+
+impl PureNode {
+    /// The same tree once more, sharing the node.
+    fn share(&self) -> Result<PureNode, NoMemory>
+        ensures { IfOk result (λ n. node_tree n ≡ node_tree self.now) }
+    {
+        match self {
+            PureNode::Written(term) => Ok(PureNode::Written(term.clone()?)),
+            PureNode::Built(term) => Ok(PureNode::Built(term.clone()?)),
+            PureNode::Variable(index) => Ok(PureNode::Variable(*index)),
+        }
+    }
 }
 
 impl PureView {
@@ -128,20 +142,8 @@ impl PureView {
         ensures { IfOk result (λ t. t ≡ self.now) }
     {
         let passed = self.passed.share()?;
-        match &self.node {
-            PureNode::Written(term) => Ok(PureView {
-                node: PureNode::Written(term.clone()?),
-                passed,
-            }),
-            PureNode::Built(term) => Ok(PureView {
-                node: PureNode::Built(term.clone()?),
-                passed,
-            }),
-            PureNode::Variable(index) => Ok(PureView {
-                node: PureNode::Variable(*index),
-                passed,
-            }),
-        }
+        let node = self.node.share()?;
+        Ok(PureView { node, passed })
     }
 
     /// The head alone. It takes no memory.
@@ -161,11 +163,10 @@ impl PureView {
     pub fn form(&self, alloc: Global) -> Result<PureViewForm, NoMemory>
         ensures { IfOk result (λ f. pure_view_tree f ≡ self.now) }
     {
-        let passed = self.passed.share()?;
         match &self.node {
-            PureNode::Written(term) => written_form(alloc, term, passed),
-            PureNode::Built(term) => built_form(term, passed),
-            PureNode::Variable(index) => variable(*index, &passed),
+            PureNode::Written(term) => written_form(alloc, term, &self.passed),
+            PureNode::Built(term) => built_form(term, &self.passed),
+            PureNode::Variable(index) => variable_form(*index, &self.passed),
         }
     }
 
@@ -176,42 +177,19 @@ impl PureView {
     {
         self.known();
         let passed = self.passed.raised(alloc)?;
-        match &self.node {
-            PureNode::Written(term) => Ok(PureView {
-                node: PureNode::Written(term.clone()?),
-                passed,
-            }),
-            PureNode::Built(term) => Ok(PureView {
-                node: PureNode::Built(term.clone()?),
-                passed,
-            }),
-            PureNode::Variable(index) => Ok(PureView {
-                node: PureNode::Variable(*index),
-                passed,
-            }),
-        }
+        let node = self.node.share()?;
+        Ok(PureView { node, passed })
     }
 
     /// The tree as one, of its own nodes.
     pub fn whole(&self, alloc: Global) -> Result<Pure, NoMemory>
         ensures { IfOk result (λ t. t ≡ self.now) }
     {
-        if let PureNode::Built(term) = &self.node {
-            return self.passed.carried(alloc, 0, term);
-        }
         self.known();
-        match self.form(alloc)? {
-            PureViewForm::Var(index) => Pure::var(alloc, index),
-            PureViewForm::Name(item) => Pure::name(alloc, item),
-            PureViewForm::Function(part) => {
-                let part = part.whole(alloc)?;
-                Pure::function(alloc, &part)
-            }
-            PureViewForm::Ap(head, arg) => {
-                let head = head.whole(alloc)?;
-                let arg = arg.whole(alloc)?;
-                Pure::ap(alloc, &head, &arg)
-            }
+        match &self.node {
+            PureNode::Written(term) => whole_written(alloc, term, &self.passed),
+            PureNode::Built(term) => whole_built(alloc, term, &self.passed),
+            PureNode::Variable(index) => whole_variable(alloc, *index, &self.passed),
         }
     }
 
@@ -222,8 +200,33 @@ impl PureView {
         ensures { PutGives (put 0 part.now self.now) result }
     {
         let part = part.whole(alloc)?;
-        let tree = self.whole(alloc)?;
-        tree.put_pure(alloc, 0, &part)
+        put_node(alloc, &self.node, &self.passed, &part)
+    }
+}
+
+/// The tree that is read at the node, where these places were passed, with the part for the variable 0.
+#[tactic(auto, using(crate::proofs::Puts::entering))]
+fn put_node(alloc: Global, node: &PureNode, passed: &Passed, part: &Pure) -> Result<Pure, PutStop>
+    requires used { UsedAs OfTerm 0 pure_terms (renumbered 0 passed.now (node_tree node.now)) }
+    requires below { IsBelow 4290000000 part.now }
+    ensures { PutGives (put 0 part.now (renumbered 0 passed.now (node_tree node.now))) result }
+{
+    match node {
+        PureNode::Written(term) => {
+            // Asked for its bound alone.
+            let _depth = term.depth();
+            put_written(alloc, term, passed, 0, &Part::Pure(part))
+        }
+        PureNode::Built(term) => {
+            if passed.is_none() {
+                return term.put_pure(alloc, 0, part);
+            }
+            if term.depth() > 4096 {
+                return Err(PutStop::TooDeep);
+            }
+            put_built(alloc, term, passed, 0, &Part::Pure(part))
+        }
+        PureNode::Variable(index) => put_variable(alloc, *index, passed, 0, &Part::Pure(part)),
     }
 }
 
@@ -255,75 +258,76 @@ fn top_built(term: &Pure) -> PureTop
     }
 }
 
-/// The head of the term's erasure with its parts, where these binders were passed.
-fn written_form(alloc: Global, term: &Term, passed: Passed) -> Result<PureViewForm, NoMemory>
-    requires class { IsOf pure_terms (renumbered 0 passed (erased term.now)) }
-    requires bounded { depth (renumbered 0 passed (erased term.now)) ≤ 65535 }
-    ensures { IfOk result (λ f. pure_view_tree f ≡ renumbered 0 passed (erased term.now)) }
+/// The head of the term's erasure with its parts, where these places were passed.
+fn written_form(alloc: Global, term: &Term, passed: &Passed) -> Result<PureViewForm, NoMemory>
+    requires { IsRead (renumbered 0 passed.now (erased term.now)) }
+    ensures { IfOk result (λ f. pure_view_tree f ≡ renumbered 0 passed.now (erased term.now)) }
 {
     match view(term) {
-        Erased::Var(index) => variable(index, &passed),
+        Erased::Var(index) => variable_form(index, passed),
         Erased::Name(item) => Ok(PureViewForm::Name(item)),
-        Erased::Lam(part) => Ok(PureViewForm::Function(written(part, passed.kept()?)?)),
+        Erased::Lam(part) => function_form(PureNode::Written(part.clone()?), passed),
         Erased::App(head, arg) => {
-            let head = written(head, passed.share()?)?;
-            let arg = written(arg, passed)?;
-            Ok(PureViewForm::Ap(head, arg))
+            let head = head.clone()?;
+            let arg = arg.clone()?;
+            ap_form(PureNode::Written(head), PureNode::Written(arg), passed)
         }
         Erased::Pass(part) => written_form(alloc, part, passed),
-        Erased::Under(part) => written_form(alloc, part, passed.erased(alloc)?),
+        Erased::Under(part) => written_form(alloc, part, &passed.erased(alloc)?),
         Erased::Pure(kept) => built_form(kept, passed),
         Erased::Identity => Ok(PureViewForm::Function(PureView::variable(0))),
     }
 }
 
-/// The head of the pure term with its parts, where these binders were passed.
-fn built_form(term: &Pure, passed: Passed) -> Result<PureViewForm, NoMemory>
-    requires class { IsOf pure_terms (renumbered 0 passed term.now) }
-    requires bounded { depth (renumbered 0 passed term.now) ≤ 65535 }
-    ensures { IfOk result (λ f. pure_view_tree f ≡ renumbered 0 passed term.now) }
+/// The head of the pure term with its parts, where these places were passed.
+fn built_form(term: &Pure, passed: &Passed) -> Result<PureViewForm, NoMemory>
+    requires { IsRead (renumbered 0 passed.now term.now) }
+    ensures { IfOk result (λ f. pure_view_tree f ≡ renumbered 0 passed.now term.now) }
 {
     match term.form() {
-        PureForm::Var(index) => variable(*index, &passed),
+        PureForm::Var(index) => variable_form(*index, passed),
         PureForm::Name(item) => Ok(PureViewForm::Name(*item)),
-        PureForm::Function(part) => Ok(PureViewForm::Function(built(part, passed.kept()?)?)),
+        PureForm::Function(part) => function_form(PureNode::Built(part.clone()?), passed),
         PureForm::Ap(head, arg) => {
-            let head = built(head, passed.share()?)?;
-            let arg = built(arg, passed)?;
-            Ok(PureViewForm::Ap(head, arg))
+            let head = head.clone()?;
+            let arg = arg.clone()?;
+            ap_form(PureNode::Built(head), PureNode::Built(arg), passed)
         }
     }
 }
 
-/// A variable, where these binders were passed.
-fn variable(index: u32, passed: &Passed) -> Result<PureViewForm, NoMemory>
+fn variable_form(index: u32, passed: &Passed) -> Result<PureViewForm, NoMemory>
     requires { IsOf pure_terms (renumbered 0 passed.now (var index)) }
     ensures { IfOk result (λ f. pure_view_tree f ≡ renumbered 0 passed.now (var index)) }
 {
-    match passed.number(index)? {
-        Some(index) => Ok(PureViewForm::Var(index)),
-        None => unreachable!(),
-    }
+    let number = passed.number(index)?;
+    Ok(PureViewForm::Var(number))
 }
 
-fn written(term: &Term, passed: Passed) -> Result<PureView, NoMemory>
-    requires class { IsOf pure_terms (renumbered 0 passed (erased term.now)) }
-    requires bounded { depth (renumbered 0 passed (erased term.now)) ≤ 65535 }
-    ensures { IfOk result (λ t. t ≡ renumbered 0 passed (erased term.now)) }
+/// The function of which the part is read at the node.
+fn function_form(node: PureNode, passed: &Passed) -> Result<PureViewForm, NoMemory>
+    requires { IsRead (fn (renumbered 1 passed.now (node_tree node))) }
+    ensures { IfOk result (λ f. pure_view_tree f ≡ fn (renumbered 1 passed.now (node_tree node))) }
 {
-    Ok(PureView {
-        node: PureNode::Written(term.clone()?),
-        passed,
-    })
+    let passed = passed.kept()?;
+    Ok(PureViewForm::Function(PureView { node, passed }))
 }
 
-fn built(term: &Pure, passed: Passed) -> Result<PureView, NoMemory>
-    requires class { IsOf pure_terms (renumbered 0 passed term.now) }
-    requires bounded { depth (renumbered 0 passed term.now) ≤ 65535 }
-    ensures { IfOk result (λ t. t ≡ renumbered 0 passed term.now) }
+/// The application of which the parts are read at the nodes.
+fn ap_form(head: PureNode, arg: PureNode, passed: &Passed) -> Result<PureViewForm, NoMemory>
+    requires { IsRead (ap (renumbered 0 passed.now (node_tree head)) (renumbered 0 passed.now (node_tree arg))) }
+    ensures { IfOk result (λ f. pure_view_tree f ≡ ap (renumbered 0 passed.now (node_tree head)) (renumbered 0 passed.now (node_tree arg))) }
 {
-    Ok(PureView {
-        node: PureNode::Built(term.clone()?),
-        passed,
-    })
+    let over_head = passed.share()?;
+    let over_arg = passed.share()?;
+    Ok(PureViewForm::Ap(
+        PureView {
+            node: head,
+            passed: over_head,
+        },
+        PureView {
+            node: arg,
+            passed: over_arg,
+        },
+    ))
 }

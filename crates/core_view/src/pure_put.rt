@@ -1,0 +1,133 @@
+//! Putting a part for a variable of a pure term that is read. Each node that is read is read once, and the new node is made at once.
+ghost use Rattle.std.specs.Prelude.{◌≡◌, ◌+◌, ◌≤◌, IfOk};
+ghost use Rattle.cdle_model.specs.Classes.{UsedAs, pure_terms};
+ghost use Rattle.cdle_model.specs.Depth.{depth};
+ghost use Rattle.cdle_model.specs.Erasure.{erased};
+ghost use Rattle.cdle_model.specs.Trees.{IsBelow, Tree, put, shift, var};
+ghost use Rattle.core_tree.specs.Nodes.{PutGives};
+ghost use Rattle.core_view.specs.Parts.{part_sort, part_tree};
+ghost use Rattle.core_view.specs.Passed.{renumbered};
+
+use crate::erasure::{Erased, view};
+use crate::part::Part;
+use crate::passed::Passed;
+use crate::whole::{again, identity};
+use cdle_model::NoMemory;
+use core_tree::{Pure, PureForm, PutStop, Term};
+use std::alloc::Global;
+
+/// The term's erasure, where these places were passed, with the part in the place of the variable `under`, and the variables above it lowered.
+pub(crate) fn put_written(
+    alloc: Global,
+    term: &Term,
+    passed: &Passed,
+    under: u32,
+    part: &Part<'_>,
+) -> Result<Pure, PutStop>
+    requires used { UsedAs (part_sort part.now) under pure_terms (renumbered 0 passed.now (erased term.now)) }
+    requires below { IsBelow 4290000000 (part_tree part.now) }
+    requires fits { under + depth term.now ≤ 4096 }
+    ensures { PutGives (put under (shift 0 under (part_tree part.now)) (renumbered 0 passed.now (erased term.now))) result }
+{
+    match view(term) {
+        Erased::Var(index) => put_variable(alloc, index, passed, under, part),
+        Erased::Name(item) => shallow(Pure::name(alloc, item)),
+        Erased::Lam(inner) => {
+            let inner = put_written(alloc, inner, &passed.kept()?, under + 1, part)?;
+            shallow(Pure::function(alloc, &inner))
+        }
+        Erased::App(head, arg) => {
+            let head = put_written(alloc, head, passed, under, part)?;
+            let arg = put_written(alloc, arg, passed, under, part)?;
+            shallow(Pure::ap(alloc, &head, &arg))
+        }
+        Erased::Pass(inner) => put_written(alloc, inner, passed, under, part),
+        Erased::Under(inner) => put_written(alloc, inner, &passed.erased(alloc)?, under, part),
+        Erased::Pure(kept) => put_built(alloc, kept, passed, under, part),
+        Erased::Identity => shallow(identity(alloc)),
+    }
+}
+
+/// The pure term, where these places were passed, with the part in the place of the variable `under`, and the variables above it lowered.
+pub(crate) fn put_built(
+    alloc: Global,
+    term: &Pure,
+    passed: &Passed,
+    under: u32,
+    part: &Part<'_>,
+) -> Result<Pure, PutStop>
+    requires used { UsedAs (part_sort part.now) under pure_terms (renumbered 0 passed.now term.now) }
+    requires below { IsBelow 4290000000 (part_tree part.now) }
+    requires fits { under + depth term.now ≤ 4096 }
+    ensures { PutGives (put under (shift 0 under (part_tree part.now)) (renumbered 0 passed.now term.now)) result }
+{
+    if term.free() <= under as u64 && passed.spares(term) {
+        return shallow(again(term));
+    }
+    match term.form() {
+        PureForm::Var(index) => put_variable(alloc, *index, passed, under, part),
+        PureForm::Name(item) => shallow(Pure::name(alloc, *item)),
+        PureForm::Function(inner) => {
+            let inner = put_built(alloc, inner, &passed.kept()?, under + 1, part)?;
+            shallow(Pure::function(alloc, &inner))
+        }
+        PureForm::Ap(head, arg) => {
+            let head = put_built(alloc, head, passed, under, part)?;
+            let arg = put_built(alloc, arg, passed, under, part)?;
+            shallow(Pure::ap(alloc, &head, &arg))
+        }
+    }
+}
+
+/// A variable, where these places were passed, with the part in its place where its number is `under`, and lowered where it is above.
+pub(crate) fn put_variable(
+    alloc: Global,
+    index: u32,
+    passed: &Passed,
+    under: u32,
+    part: &Part<'_>,
+) -> Result<Pure, PutStop>
+    requires used { UsedAs (part_sort part.now) under pure_terms (renumbered 0 passed.now (var index)) }
+    requires below { IsBelow 4290000000 (part_tree part.now) }
+    requires fits { under ≤ 4096 }
+    ensures { PutGives (put under (shift 0 under (part_tree part.now)) (renumbered 0 passed.now (var index))) result }
+{
+    let number = passed.number(index)?;
+    put_number(alloc, number, under, part)
+}
+
+#[tactic(auto, using(crate::proofs::Puts::putting))]
+fn put_number(alloc: Global, number: u32, under: u32, part: &Part<'_>) -> Result<Pure, PutStop>
+    requires used { UsedAs (part_sort part.now) under pure_terms (var number) }
+    requires below { IsBelow 4290000000 (part_tree part.now) }
+    requires fits { under ≤ 4096 }
+    ensures { PutGives (put under (shift 0 under (part_tree part.now)) (var number)) result }
+{
+    if number < under {
+        return shallow(Pure::var(alloc, number));
+    }
+    if number > under {
+        return shallow(Pure::var(alloc, number - 1));
+    }
+    match part {
+        Part::Pure(part) => {
+            if part.depth() > 4096 {
+                return Err(PutStop::TooDeep);
+            }
+            part.known();
+            Ok(part.shift(alloc, 0, under)?)
+        }
+        Part::Guide(_) => unreachable!(),
+    }
+}
+
+/// The pure term that was made, where it is not too deep.
+fn shallow(made: Result<Pure, NoMemory>) -> Result<Pure, PutStop>
+    ensures { (t : Tree) → IfOk made (λ m. m ≡ t) → PutGives t result }
+{
+    let tree = made?;
+    if tree.depth() > 4096 {
+        return Err(PutStop::TooDeep);
+    }
+    Ok(tree)
+}
