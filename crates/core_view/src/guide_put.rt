@@ -177,7 +177,7 @@ fn put_at(
     requires room { depth head.now < 65535 }
     ensures { PutGives (at_ head.now (put under (shift 0 under (part_tree part.now)) (erased arg.now))) result }
 {
-    let arg = put_written(alloc, arg, &Passed::none(), under, part)?;
+    let arg = put_written(alloc, arg, &Passed::none(), 0, under, part)?;
     shallow(Guide::at(alloc, head, &arg))
 }
 
@@ -196,8 +196,8 @@ fn put_eq(
     ensures { PutGives (put under (shift 0 under (part_tree part.now)) (eq left.now right.now)) result }
 {
     let none = Passed::none();
-    let left = put_built(alloc, left, &none, under, part)?;
-    let right = put_built(alloc, right, &none, under, part)?;
+    let left = put_built(alloc, left, &none, 0, under, part)?;
+    let right = put_built(alloc, right, &none, 0, under, part)?;
     shallow(Guide::eq(alloc, &left, &right))
 }
 

@@ -79,25 +79,25 @@ impl Passed {
         }
     }
 
-    /// The places as they are under one more binder that is kept.
+    /// The places as they are under so many more binders that are kept.
     #[tactic(auto, using(crate::proofs::Numbers::under_kept))]
-    pub(crate) fn kept(&self) -> Result<Passed, NoMemory>
-        ensures { IfOk result (λ p. (t : Tree) → renumbered 0 p t ≡ renumbered 1 self.now t) }
+    pub(crate) fn kept(&self, from: u32) -> Result<Passed, NoMemory>
+        ensures { IfOk result (λ p. (t : Tree) → renumbered 0 p t ≡ renumbered from self.now t) }
     {
         match &self.first {
             Places::End => Ok(Passed::none()),
-            Places::Place(kept, new, outer) => match kept.checked_add(1) {
+            Places::Place(kept, new, outer) => match kept.checked_add(from) {
                 Some(kept) => Passed::place(kept, *new, outer),
                 None => Err(NoMemory),
             },
         }
     }
 
-    /// The places with that of an erased binder inside all others.
-    pub(crate) fn erased(&self, alloc: Global) -> Result<Passed, NoMemory>
-        ensures { IfOk result (λ p. (t : Tree) → renumbered 0 p t ≡ renumbered 0 self.now (lowered t)) }
+    /// The places under so many more binders that are kept, with that of an erased binder inside all of these.
+    pub(crate) fn erased(&self, alloc: Global, from: u32) -> Result<Passed, NoMemory>
+        ensures { IfOk result (λ p. (t : Tree) → renumbered 0 p t ≡ renumbered from self.now (lowered t)) }
     {
-        let outer = Rc::new(alloc, self.share()?)?;
+        let outer = Rc::new(alloc, self.kept(from)?)?;
         Ok(Passed {
             first: Places::Place(0, 0, outer),
         })
@@ -119,25 +119,34 @@ impl Passed {
         })
     }
 
-    /// Whether the pure term stays as it is, because no place is below one of its free variables. It tells only of the innermost place.
-    #[tactic(auto, using(crate::proofs::Numbers::sparing))]
-    pub(crate) fn spares(&self, term: &Pure) -> bool
-        ensures { IsTrue result → renumbered 0 self.now term.now ≡ term.now }
+    /// Whether the pure term, whose variables below `from` are kept, stays as it is, because no place is below one of its free variables.
+    /// It looks at the innermost place alone.
+    #[tactic(auto, using(crate::proofs::Numbers::spared))]
+    pub(crate) fn spares(&self, from: u32, term: &Pure) -> bool
+        ensures { IsTrue result → renumbered from self.now term.now ≡ term.now }
     {
         match &self.first {
             Places::End => true,
-            Places::Place(kept, _, _) => term.free() <= *kept as u64,
+            Places::Place(kept, _, _) => term.free() <= from as u64 + *kept as u64,
         }
     }
 
-    /// The number that a variable of a pure term has without the erased binders and over the new variables.
-    pub(crate) fn number(&self, index: u32) -> Result<u32, NoMemory>
-        requires { IsOf pure_terms (renumbered 0 self.now (var index)) }
-        ensures { IfOk result (λ i. renumbered 0 self.now (var index) ≡ var i) }
+    /// The number that a variable of a pure term, whose variables below `from` are kept, has without the erased binders and over the new
+    /// variables.
+    #[tactic(auto, using(crate::proofs::Numbers::outside))]
+    pub(crate) fn number(&self, from: u32, index: u32) -> Result<u32, NoMemory>
+        requires { IsOf pure_terms (renumbered from self.now (var index)) }
+        ensures { IfOk result (λ i. renumbered from self.now (var index) ≡ var i) }
     {
-        match self.find(index)? {
+        if index < from {
+            return Ok(index);
+        }
+        let Some(number) = self.find(index - from)? else {
+            unreachable!()
+        };
+        match number.checked_add(from) {
             Some(number) => Ok(number),
-            None => unreachable!(),
+            None => Err(NoMemory),
         }
     }
 

@@ -21,29 +21,38 @@ pub(crate) fn put_written(
     alloc: Global,
     term: &Term,
     passed: &Passed,
+    from: u32,
     under: u32,
     part: &Part<'_>,
 ) -> Result<Pure, PutStop>
-    requires used { UsedAs (part_sort part.now) under pure_terms (renumbered 0 passed.now (erased term.now)) }
+    requires used { UsedAs (part_sort part.now) under pure_terms (renumbered from passed.now (erased term.now)) }
     requires below { IsBelow 4290000000 (part_tree part.now) }
     requires fits { under + depth term.now ≤ 4096 }
-    ensures { PutGives (put under (shift 0 under (part_tree part.now)) (renumbered 0 passed.now (erased term.now))) result }
+    requires outside { from ≤ under }
+    ensures { PutGives (put under (shift 0 under (part_tree part.now)) (renumbered from passed.now (erased term.now))) result }
 {
     match view(term) {
-        Erased::Var(index) => put_variable(alloc, index, passed, under, part),
+        Erased::Var(index) => put_variable(alloc, index, passed, from, under, part),
         Erased::Name(item) => shallow(Pure::name(alloc, item)),
         Erased::Lam(inner) => {
-            let inner = put_written(alloc, inner, &passed.kept()?, under + 1, part)?;
+            let inner = put_written(alloc, inner, passed, from + 1, under + 1, part)?;
             shallow(Pure::function(alloc, &inner))
         }
         Erased::App(head, arg) => {
-            let head = put_written(alloc, head, passed, under, part)?;
-            let arg = put_written(alloc, arg, passed, under, part)?;
+            let head = put_written(alloc, head, passed, from, under, part)?;
+            let arg = put_written(alloc, arg, passed, from, under, part)?;
             shallow(Pure::ap(alloc, &head, &arg))
         }
-        Erased::Pass(inner) => put_written(alloc, inner, passed, under, part),
-        Erased::Under(inner) => put_written(alloc, inner, &passed.erased(alloc)?, under, part),
-        Erased::Pure(kept) => put_built(alloc, kept, passed, under, part),
+        Erased::Pass(inner) => put_written(alloc, inner, passed, from, under, part),
+        Erased::Under(inner) => put_written(
+            alloc,
+            inner,
+            &passed.erased(alloc, from)?,
+            0,
+            under,
+            part,
+        ),
+        Erased::Pure(kept) => put_built(alloc, kept, passed, from, under, part),
         Erased::Identity => shallow(identity(alloc)),
     }
 }
@@ -53,27 +62,29 @@ pub(crate) fn put_built(
     alloc: Global,
     term: &Pure,
     passed: &Passed,
+    from: u32,
     under: u32,
     part: &Part<'_>,
 ) -> Result<Pure, PutStop>
-    requires used { UsedAs (part_sort part.now) under pure_terms (renumbered 0 passed.now term.now) }
+    requires used { UsedAs (part_sort part.now) under pure_terms (renumbered from passed.now term.now) }
     requires below { IsBelow 4290000000 (part_tree part.now) }
     requires fits { under + depth term.now ≤ 4096 }
-    ensures { PutGives (put under (shift 0 under (part_tree part.now)) (renumbered 0 passed.now term.now)) result }
+    requires outside { from ≤ under }
+    ensures { PutGives (put under (shift 0 under (part_tree part.now)) (renumbered from passed.now term.now)) result }
 {
-    if term.free() <= under as u64 && passed.spares(term) {
+    if term.free() <= under as u64 && passed.spares(from, term) {
         return shallow(again(term));
     }
     match term.form() {
-        PureForm::Var(index) => put_variable(alloc, *index, passed, under, part),
+        PureForm::Var(index) => put_variable(alloc, *index, passed, from, under, part),
         PureForm::Name(item) => shallow(Pure::name(alloc, *item)),
         PureForm::Function(inner) => {
-            let inner = put_built(alloc, inner, &passed.kept()?, under + 1, part)?;
+            let inner = put_built(alloc, inner, passed, from + 1, under + 1, part)?;
             shallow(Pure::function(alloc, &inner))
         }
         PureForm::Ap(head, arg) => {
-            let head = put_built(alloc, head, passed, under, part)?;
-            let arg = put_built(alloc, arg, passed, under, part)?;
+            let head = put_built(alloc, head, passed, from, under, part)?;
+            let arg = put_built(alloc, arg, passed, from, under, part)?;
             shallow(Pure::ap(alloc, &head, &arg))
         }
     }
@@ -84,15 +95,16 @@ pub(crate) fn put_variable(
     alloc: Global,
     index: u32,
     passed: &Passed,
+    from: u32,
     under: u32,
     part: &Part<'_>,
 ) -> Result<Pure, PutStop>
-    requires used { UsedAs (part_sort part.now) under pure_terms (renumbered 0 passed.now (var index)) }
+    requires used { UsedAs (part_sort part.now) under pure_terms (renumbered from passed.now (var index)) }
     requires below { IsBelow 4290000000 (part_tree part.now) }
     requires fits { under ≤ 4096 }
-    ensures { PutGives (put under (shift 0 under (part_tree part.now)) (renumbered 0 passed.now (var index))) result }
+    ensures { PutGives (put under (shift 0 under (part_tree part.now)) (renumbered from passed.now (var index))) result }
 {
-    let number = passed.number(index)?;
+    let number = passed.number(from, index)?;
     put_number(alloc, number, under, part)
 }
 

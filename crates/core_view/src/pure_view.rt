@@ -187,9 +187,17 @@ impl PureView {
     {
         self.known();
         match &self.node {
-            PureNode::Written(term) => whole_written(alloc, term, &self.passed),
-            PureNode::Built(term) => whole_built(alloc, term, &self.passed),
-            PureNode::Variable(index) => whole_variable(alloc, *index, &self.passed),
+            PureNode::Written(term) => {
+                // Asked for its bound alone.
+                let _depth = term.depth();
+                whole_written(alloc, term, &self.passed, 0)
+            }
+            PureNode::Built(term) => {
+                // Asked for its bound alone.
+                let _depth = term.depth();
+                whole_built(alloc, term, &self.passed, 0)
+            }
+            PureNode::Variable(index) => whole_variable(alloc, *index, &self.passed, 0),
         }
     }
 
@@ -215,7 +223,7 @@ fn put_node(alloc: Global, node: &PureNode, passed: &Passed, part: &Pure) -> Res
         PureNode::Written(term) => {
             // Asked for its bound alone.
             let _depth = term.depth();
-            put_written(alloc, term, passed, 0, &Part::Pure(part))
+            put_written(alloc, term, passed, 0, 0, &Part::Pure(part))
         }
         PureNode::Built(term) => {
             if passed.is_none() {
@@ -224,9 +232,9 @@ fn put_node(alloc: Global, node: &PureNode, passed: &Passed, part: &Pure) -> Res
             if term.depth() > 4096 {
                 return Err(PutStop::TooDeep);
             }
-            put_built(alloc, term, passed, 0, &Part::Pure(part))
+            put_built(alloc, term, passed, 0, 0, &Part::Pure(part))
         }
-        PureNode::Variable(index) => put_variable(alloc, *index, passed, 0, &Part::Pure(part)),
+        PureNode::Variable(index) => put_variable(alloc, *index, passed, 0, 0, &Part::Pure(part)),
     }
 }
 
@@ -273,7 +281,7 @@ fn written_form(alloc: Global, term: &Term, passed: &Passed) -> Result<PureViewF
             ap_form(PureNode::Written(head), PureNode::Written(arg), passed)
         }
         Erased::Pass(part) => written_form(alloc, part, passed),
-        Erased::Under(part) => written_form(alloc, part, &passed.erased(alloc)?),
+        Erased::Under(part) => written_form(alloc, part, &passed.erased(alloc, 0)?),
         Erased::Pure(kept) => built_form(kept, passed),
         Erased::Identity => Ok(PureViewForm::Function(PureView::variable(0))),
     }
@@ -300,7 +308,7 @@ fn variable_form(index: u32, passed: &Passed) -> Result<PureViewForm, NoMemory>
     requires { IsOf pure_terms (renumbered 0 passed.now (var index)) }
     ensures { IfOk result (λ f. pure_view_tree f ≡ renumbered 0 passed.now (var index)) }
 {
-    let number = passed.number(index)?;
+    let number = passed.number(0, index)?;
     Ok(PureViewForm::Var(number))
 }
 
@@ -309,7 +317,7 @@ fn function_form(node: PureNode, passed: &Passed) -> Result<PureViewForm, NoMemo
     requires { IsRead (fn (renumbered 1 passed.now (node_tree node))) }
     ensures { IfOk result (λ f. pure_view_tree f ≡ fn (renumbered 1 passed.now (node_tree node))) }
 {
-    let passed = passed.kept()?;
+    let passed = passed.kept(1)?;
     Ok(PureViewForm::Function(PureView { node, passed }))
 }
 

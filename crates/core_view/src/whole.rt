@@ -1,6 +1,7 @@
 //! Pure terms that are read, as trees of their own nodes. Each node that is read is read once, and the new node is made at once.
-ghost use Rattle.std.specs.Prelude.{◌≡◌, IfOk};
+ghost use Rattle.std.specs.Prelude.{◌≡◌, ◌+◌, ◌≤◌, IfOk};
 ghost use Rattle.cdle_model.specs.Classes.{IsOf, pure_terms};
+ghost use Rattle.cdle_model.specs.Depth.{depth};
 ghost use Rattle.cdle_model.specs.Erasure.{erased};
 ghost use Rattle.cdle_model.specs.Forms.{fn};
 ghost use Rattle.cdle_model.specs.Trees.{var};
@@ -12,62 +13,77 @@ use cdle_model::NoMemory;
 use core_tree::{Pure, PureForm, Term};
 use std::alloc::{AllocError, Global};
 
-/// The term's erasure, where these places were passed.
-pub(crate) fn whole_written(alloc: Global, term: &Term, passed: &Passed) -> Result<Pure, NoMemory>
-    requires { IsOf pure_terms (renumbered 0 passed.now (erased term.now)) }
-    ensures { IfOk result (λ t. t ≡ renumbered 0 passed.now (erased term.now)) }
+/// The term's erasure, whose variables below `from` are kept, where these places were passed outside.
+pub(crate) fn whole_written(
+    alloc: Global,
+    term: &Term,
+    passed: &Passed,
+    from: u32,
+) -> Result<Pure, NoMemory>
+    requires class { IsOf pure_terms (renumbered from passed.now (erased term.now)) }
+    requires room { from + depth term.now ≤ 65535 }
+    ensures { IfOk result (λ t. t ≡ renumbered from passed.now (erased term.now)) }
 {
-    // Asked for its bound alone.
-    let _depth = term.depth();
     match view(term) {
-        Erased::Var(index) => whole_variable(alloc, index, passed),
+        Erased::Var(index) => whole_variable(alloc, index, passed, from),
         Erased::Name(item) => Pure::name(alloc, item),
         Erased::Lam(part) => {
-            let part = whole_written(alloc, part, &passed.kept()?)?;
+            let part = whole_written(alloc, part, passed, from + 1)?;
             Pure::function(alloc, &part)
         }
         Erased::App(head, arg) => {
-            let head = whole_written(alloc, head, passed)?;
-            let arg = whole_written(alloc, arg, passed)?;
+            let head = whole_written(alloc, head, passed, from)?;
+            let arg = whole_written(alloc, arg, passed, from)?;
             Pure::ap(alloc, &head, &arg)
         }
-        Erased::Pass(part) => whole_written(alloc, part, passed),
-        Erased::Under(part) => whole_written(alloc, part, &passed.erased(alloc)?),
-        Erased::Pure(kept) => whole_built(alloc, kept, passed),
+        Erased::Pass(part) => whole_written(alloc, part, passed, from),
+        Erased::Under(part) => whole_written(alloc, part, &passed.erased(alloc, from)?, 0),
+        Erased::Pure(kept) => whole_built(alloc, kept, passed, from),
         Erased::Identity => identity(alloc),
     }
 }
 
-/// The pure term, where these places were passed.
-#[tactic(auto, using(crate::proofs::Numbers::sparing))]
-pub(crate) fn whole_built(alloc: Global, term: &Pure, passed: &Passed) -> Result<Pure, NoMemory>
-    requires { IsOf pure_terms (renumbered 0 passed.now term.now) }
-    ensures { IfOk result (λ t. t ≡ renumbered 0 passed.now term.now) }
+/// The pure term, whose variables below `from` are kept, where these places were passed outside.
+#[tactic(auto, using(crate::proofs::Numbers::spared))]
+pub(crate) fn whole_built(
+    alloc: Global,
+    term: &Pure,
+    passed: &Passed,
+    from: u32,
+) -> Result<Pure, NoMemory>
+    requires class { IsOf pure_terms (renumbered from passed.now term.now) }
+    requires room { from + depth term.now ≤ 65535 }
+    ensures { IfOk result (λ t. t ≡ renumbered from passed.now term.now) }
 {
-    if passed.spares(term) {
+    if passed.spares(from, term) {
         return again(term);
     }
     match term.form() {
-        PureForm::Var(index) => whole_variable(alloc, *index, passed),
+        PureForm::Var(index) => whole_variable(alloc, *index, passed, from),
         PureForm::Name(item) => Pure::name(alloc, *item),
         PureForm::Function(part) => {
-            let part = whole_built(alloc, part, &passed.kept()?)?;
+            let part = whole_built(alloc, part, passed, from + 1)?;
             Pure::function(alloc, &part)
         }
         PureForm::Ap(head, arg) => {
-            let head = whole_built(alloc, head, passed)?;
-            let arg = whole_built(alloc, arg, passed)?;
+            let head = whole_built(alloc, head, passed, from)?;
+            let arg = whole_built(alloc, arg, passed, from)?;
             Pure::ap(alloc, &head, &arg)
         }
     }
 }
 
-/// A variable, where these places were passed.
-pub(crate) fn whole_variable(alloc: Global, index: u32, passed: &Passed) -> Result<Pure, NoMemory>
-    requires { IsOf pure_terms (renumbered 0 passed.now (var index)) }
-    ensures { IfOk result (λ t. t ≡ renumbered 0 passed.now (var index)) }
+/// The same of a variable.
+pub(crate) fn whole_variable(
+    alloc: Global,
+    index: u32,
+    passed: &Passed,
+    from: u32,
+) -> Result<Pure, NoMemory>
+    requires { IsOf pure_terms (renumbered from passed.now (var index)) }
+    ensures { IfOk result (λ t. t ≡ renumbered from passed.now (var index)) }
 {
-    let number = passed.number(index)?;
+    let number = passed.number(from, index)?;
     Pure::var(alloc, number)
 }
 

@@ -6,4 +6,4 @@ use Rattle.core_view.proofs.Parts.{fits_class}
 use Rattle.core_view.proofs.pure_put.put_variable.Goals as goal
 
 pub number-requires : goal.number-requires
-number-requires c = fits_class (with_use (part_sort c.args.part.now) c.args.under) (renumbered 0 c.args.passed.now (var c.args.index)) c.requires.used
+number-requires c = fits_class (with_use (part_sort c.args.part.now) c.args.under) (renumbered c.args.from c.args.passed.now (var c.args.index)) c.requires.used

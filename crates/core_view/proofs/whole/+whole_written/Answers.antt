@@ -1,4 +1,4 @@
-use Rattle.std.proofs.Common.{◌≡◌, sym, ap, ◌∙◌, subst, IfOk, arith, rules}
+use Rattle.std.proofs.Common.{◌≡◌, ◌+◌, sym, ap, ap₂, ◌∙◌, subst, IfOk, arith, rules}
 use Rattle.cdle_model.specs.Trees.{Tree, name, var}
 use Rattle.cdle_model.specs.Forms.{fn, ap as apply_to}
 use Rattle.cdle_model.specs.Classes.{anything}
@@ -7,48 +7,48 @@ use Rattle.cdle_model.specs.Erasure.{erased}
 use Rattle.core_tree.specs.Forms.{pure_tree}
 use Rattle.core_view.proofs.Erasures.{depth_erased}
 use Rattle.core_view.proofs.Numbers.{renumbered_depth}
-use Rattle.core_view.proofs.Parts.{function_class, function_of, apply_fits, apply_of, name_is, identity_is}
+use Rattle.core_view.proofs.Parts.{function_is, function_fits, apply_is, apply_fits, name_is, identity_is}
 use Rattle.core_view.proofs.whole.+whole_written.Goals as goal
 
 pub whole_written-requires : goal.whole_written-requires
 whole_written-requires t c =
-    let h = function_class c.args.passed.now (erased c.args.term.now) c.in_ok-kept-in-Lam.field-0 (erased c.in-Lam.part.now) c.in-Lam.ensures.erasure (c.in_ok-kept-in-Lam.ensures (erased c.in-Lam.part.now)) c.requires in
+    let h = function_fits c.args.from c.args.passed.now (erased c.args.term.now) anything (erased c.in-Lam.part.now) c.in-Lam.ensures.erasure c.requires.class in
     search (rules, h)
 
 pub whole_written-requires-in-App : goal.whole_written-requires-in-App
 whole_written-requires-in-App t c =
-    let h = (apply_fits c.args.passed.now (erased c.args.term.now) anything (erased c.in-App.head.now) (erased c.in-App.arg.now) c.in-App.ensures.erasure c.requires).0 in
+    let h = (apply_fits c.args.from c.args.passed.now (erased c.args.term.now) anything (erased c.in-App.head.now) (erased c.in-App.arg.now) c.in-App.ensures.erasure c.requires.class).0 in
     search (rules, h)
 
 pub whole_written-requires-in-App-2 : goal.whole_written-requires-in-App-2
 whole_written-requires-in-App-2 t c =
-    let h = (apply_fits c.args.passed.now (erased c.args.term.now) anything (erased c.in-App.head.now) (erased c.in-App.arg.now) c.in-App.ensures.erasure c.requires).1 in
+    let h = (apply_fits c.args.from c.args.passed.now (erased c.args.term.now) anything (erased c.in-App.head.now) (erased c.in-App.arg.now) c.in-App.ensures.erasure c.requires.class).1 in
     search (rules, h)
 
 pub function-requires : goal.function-requires
 function-requires t c =
-    omega (arith, ap depth c.in_ok-part-in-Lam.ensures, renumbered_depth 0 c.in_ok-kept-in-Lam.field-0 (erased c.in-Lam.part.now), depth_erased c.in-Lam.part.now, c.in-Lam.ensures.smaller, c.depth-depth.ensures.is, c.depth-depth.ensures.bounded)
+    omega (arith, ap depth c.in_ok-part-in-Lam.ensures, renumbered_depth (c.args.from + 1) c.args.passed.now (erased c.in-Lam.part.now), depth_erased c.in-Lam.part.now, c.in-Lam.ensures.smaller, c.requires.room)
 
 pub ap-requires-clause-head_depth : goal.ap-requires-clause-head_depth
 ap-requires-clause-head_depth t c =
-    omega (arith, ap depth c.in_ok-head-in-App.ensures, renumbered_depth 0 c.args.passed.now (erased c.in-App.head.now), depth_erased c.in-App.head.now, c.in-App.ensures.smaller.0, c.depth-depth.ensures.is, c.depth-depth.ensures.bounded)
+    omega (arith, ap depth c.in_ok-head-in-App.ensures, renumbered_depth c.args.from c.args.passed.now (erased c.in-App.head.now), depth_erased c.in-App.head.now, c.in-App.ensures.smaller.0, c.requires.room)
 
 pub ap-requires-clause-arg_depth : goal.ap-requires-clause-arg_depth
 ap-requires-clause-arg_depth t c =
-    omega (arith, ap depth c.in_ok-arg-in-App.ensures, renumbered_depth 0 c.args.passed.now (erased c.in-App.arg.now), depth_erased c.in-App.arg.now, c.in-App.ensures.smaller.1, c.depth-depth.ensures.is, c.depth-depth.ensures.bounded)
+    omega (arith, ap depth c.in_ok-arg-in-App.ensures, renumbered_depth c.args.from c.args.passed.now (erased c.in-App.arg.now), depth_erased c.in-App.arg.now, c.in-App.ensures.smaller.1, c.requires.room)
 
 pub returns-in-Name : goal.returns-in-Name
 returns-in-Name t c =
-    subst (λ z. IfOk c.name.result (λ (y : Tree). y ≡ z)) (name_is c.args.passed.now (erased c.args.term.now) c.in-Name.item c.in-Name.ensures.erasure) c.name.ensures
+    subst (λ z. IfOk c.name.result (λ (y : Tree). y ≡ z)) (name_is c.args.from c.args.passed.now (erased c.args.term.now) c.in-Name.item c.in-Name.ensures.erasure) c.name.ensures
 
 pub returns-in_ok-part-in-Lam : goal.returns-in_ok-part-in-Lam
 returns-in_ok-part-in-Lam t c =
-    subst (λ z. IfOk c.function.result (λ (y : Tree). y ≡ z)) (function_of c.args.passed.now (erased c.args.term.now) c.in_ok-kept-in-Lam.field-0 (erased c.in-Lam.part.now) c.in_ok-part-in-Lam.part c.in-Lam.ensures.erasure (c.in_ok-kept-in-Lam.ensures (erased c.in-Lam.part.now)) c.in_ok-part-in-Lam.ensures) c.function.ensures
+    subst (λ z. IfOk c.function.result (λ (y : Tree). y ≡ z)) (ap fn c.in_ok-part-in-Lam.ensures ∙ function_is c.args.from c.args.passed.now (erased c.args.term.now) (erased c.in-Lam.part.now) c.in-Lam.ensures.erasure) c.function.ensures
 
 pub returns-in_ok-arg-in-App : goal.returns-in_ok-arg-in-App
 returns-in_ok-arg-in-App t c =
-    subst (λ z. IfOk c.ap.result (λ (y : Tree). y ≡ z)) (apply_of c.args.passed.now (erased c.args.term.now) (erased c.in-App.head.now) (erased c.in-App.arg.now) c.in_ok-head-in-App.head c.in_ok-arg-in-App.arg c.in-App.ensures.erasure c.in_ok-head-in-App.ensures c.in_ok-arg-in-App.ensures) c.ap.ensures
+    subst (λ z. IfOk c.ap.result (λ (y : Tree). y ≡ z)) (ap₂ apply_to c.in_ok-head-in-App.ensures c.in_ok-arg-in-App.ensures ∙ apply_is c.args.from c.args.passed.now (erased c.args.term.now) (erased c.in-App.head.now) (erased c.in-App.arg.now) c.in-App.ensures.erasure) c.ap.ensures
 
 pub returns-in-Identity : goal.returns-in-Identity
 returns-in-Identity t c =
-    subst (λ z. IfOk c.identity.result (λ (y : Tree). y ≡ z)) (identity_is c.args.passed.now (erased c.args.term.now) c.in-Identity.ensures.erasure) c.identity.ensures
+    subst (λ z. IfOk c.identity.result (λ (y : Tree). y ≡ z)) (identity_is c.args.from c.args.passed.now (erased c.args.term.now) c.in-Identity.ensures.erasure) c.identity.ensures
