@@ -1,8 +1,9 @@
 //! Putting a part for a variable of a pure term that is read. Each node that is read is read once, and the new node is made at once.
-ghost use Rattle.std.specs.Prelude.{◌≡◌, ◌+◌, ◌≤◌, IfOk};
+ghost use Rattle.std.specs.Prelude.{◌≡◌, ◌+◌, ◌<◌, ◌≤◌, IfOk};
 ghost use Rattle.cdle_model.specs.Classes.{UsedAs, pure_terms};
 ghost use Rattle.cdle_model.specs.Depth.{depth};
 ghost use Rattle.cdle_model.specs.Erasure.{erased};
+ghost use Rattle.cdle_model.specs.Forms.{ap, fn};
 ghost use Rattle.cdle_model.specs.Trees.{IsBelow, Tree, put, shift, var};
 ghost use Rattle.core_tree.specs.Nodes.{PutGives};
 ghost use Rattle.core_view.specs.Parts.{part_sort, part_tree};
@@ -36,12 +37,12 @@ pub(crate) fn put_written(
         Erased::Name(item) => shallow(Pure::name(alloc, item)),
         Erased::Lam(inner) => {
             let inner = put_written(alloc, inner, passed, from + 1, under + 1, part)?;
-            shallow(Pure::function(alloc, &inner))
+            function_of(alloc, inner)
         }
         Erased::App(head, arg) => {
             let head = put_written(alloc, head, passed, from, under, part)?;
             let arg = put_written(alloc, arg, passed, from, under, part)?;
-            shallow(Pure::ap(alloc, &head, &arg))
+            ap_of(alloc, head, arg)
         }
         Erased::Pass(inner) => put_written(alloc, inner, passed, from, under, part),
         Erased::Under(inner) => put_written(
@@ -80,12 +81,12 @@ pub(crate) fn put_built(
         PureForm::Name(item) => shallow(Pure::name(alloc, *item)),
         PureForm::Function(inner) => {
             let inner = put_built(alloc, inner, passed, from + 1, under + 1, part)?;
-            shallow(Pure::function(alloc, &inner))
+            function_of(alloc, inner)
         }
         PureForm::Ap(head, arg) => {
             let head = put_built(alloc, head, passed, from, under, part)?;
             let arg = put_built(alloc, arg, passed, from, under, part)?;
-            shallow(Pure::ap(alloc, &head, &arg))
+            ap_of(alloc, head, arg)
         }
     }
 }
@@ -131,6 +132,23 @@ fn put_number(alloc: Global, number: u32, under: u32, part: &Part<'_>) -> Result
         }
         Part::Guide(_) => unreachable!(),
     }
+}
+
+/// The function of that part, where it is not too deep.
+fn function_of(alloc: Global, part: Pure) -> Result<Pure, PutStop>
+    requires { depth part < 65535 }
+    ensures { PutGives (fn part) result }
+{
+    shallow(Pure::function(alloc, &part))
+}
+
+/// The application of those parts, where it is not too deep.
+fn ap_of(alloc: Global, head: Pure, arg: Pure) -> Result<Pure, PutStop>
+    requires head_depth { depth head < 65535 }
+    requires arg_depth { depth arg < 65535 }
+    ensures { PutGives (ap head arg) result }
+{
+    shallow(Pure::ap(alloc, &head, &arg))
 }
 
 /// The pure term that was made, where it is not too deep.

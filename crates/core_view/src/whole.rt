@@ -1,9 +1,9 @@
 //! Pure terms that are read, as trees of their own nodes. Each node that is read is read once, and the new node is made at once.
-ghost use Rattle.std.specs.Prelude.{◌≡◌, ◌+◌, ◌≤◌, IfOk};
+ghost use Rattle.std.specs.Prelude.{◌≡◌, ◌+◌, ◌<◌, ◌≤◌, IfOk};
 ghost use Rattle.cdle_model.specs.Classes.{IsOf, pure_terms};
 ghost use Rattle.cdle_model.specs.Depth.{depth};
 ghost use Rattle.cdle_model.specs.Erasure.{erased};
-ghost use Rattle.cdle_model.specs.Forms.{fn};
+ghost use Rattle.cdle_model.specs.Forms.{ap, fn};
 ghost use Rattle.cdle_model.specs.Trees.{var};
 ghost use Rattle.core_view.specs.Passed.{renumbered};
 
@@ -29,12 +29,12 @@ pub(crate) fn whole_written(
         Erased::Name(item) => Pure::name(alloc, item),
         Erased::Lam(part) => {
             let part = whole_written(alloc, part, passed, from + 1)?;
-            Pure::function(alloc, &part)
+            function_of(alloc, part)
         }
         Erased::App(head, arg) => {
             let head = whole_written(alloc, head, passed, from)?;
             let arg = whole_written(alloc, arg, passed, from)?;
-            Pure::ap(alloc, &head, &arg)
+            ap_of(alloc, head, arg)
         }
         Erased::Pass(part) => whole_written(alloc, part, passed, from),
         Erased::Under(part) => whole_written(alloc, part, &passed.erased(alloc, from)?, 0),
@@ -63,12 +63,12 @@ pub(crate) fn whole_built(
         PureForm::Name(item) => Pure::name(alloc, *item),
         PureForm::Function(part) => {
             let part = whole_built(alloc, part, passed, from + 1)?;
-            Pure::function(alloc, &part)
+            function_of(alloc, part)
         }
         PureForm::Ap(head, arg) => {
             let head = whole_built(alloc, head, passed, from)?;
             let arg = whole_built(alloc, arg, passed, from)?;
-            Pure::ap(alloc, &head, &arg)
+            ap_of(alloc, head, arg)
         }
     }
 }
@@ -85,6 +85,21 @@ pub(crate) fn whole_variable(
 {
     let number = passed.number(from, index)?;
     Pure::var(alloc, number)
+}
+
+fn function_of(alloc: Global, part: Pure) -> Result<Pure, NoMemory>
+    requires { depth part < 65535 }
+    ensures { IfOk result (λ t. t ≡ fn part) }
+{
+    Pure::function(alloc, &part)
+}
+
+fn ap_of(alloc: Global, head: Pure, arg: Pure) -> Result<Pure, NoMemory>
+    requires head_depth { depth head < 65535 }
+    requires arg_depth { depth arg < 65535 }
+    ensures { IfOk result (λ t. t ≡ ap head arg) }
+{
+    Pure::ap(alloc, &head, &arg)
 }
 
 /// `λx.x`.

@@ -1,15 +1,14 @@
 use Rattle.std.proofs.Common.{◌≡◌, ◌≤◌, sym, ap, ◌∙◌, arith, rules}
 use Rattle.std.proofs.lemmas.Result.{err_from_is_err_and}
-use Rattle.cdle_model.specs.Trees.{name, shift}
+use Rattle.cdle_model.specs.Trees.{name}
 use Rattle.cdle_model.specs.Forms.{fn, ap as apply_to}
 use Rattle.cdle_model.specs.Classes.{with_use}
 use Rattle.cdle_model.specs.Depth.{free_bound}
-use Rattle.cdle_model.specs.Erasure.{erased}
 use Rattle.core_tree.specs.Forms.{pure_tree}
 use Rattle.core_view.specs.Parts.{part_sort, part_tree}
 use Rattle.core_view.specs.Passed.{renumbered}
 use Rattle.core_view.proofs.Parts.{apply_fits, function_used}
-use Rattle.core_view.proofs.Puts.{put_function, put_function_stops, put_apply, put_head_stops, put_arg_stops, put_name, put_identity, put_spared}
+use Rattle.core_view.proofs.Puts.{put_function, put_function_stops, put_apply, put_head_stops, put_arg_stops, put_name, put_spared}
 use Rattle.core_view.proofs.pure_put.+put_built.Goals as goal
 
 pub returns-then-spares : goal.returns-then-spares
@@ -63,11 +62,11 @@ pub returns-in_ok-inner-in-Function : goal.returns-in_ok-inner-in-Function
 returns-in_ok-inner-in-Function t c =
     let e : fn c.in-Function.inner ≡ c.args.term.now = sym (ap pure_tree c.in-Function.is) ∙ c.form.ensures.is in
     let y = c.in_ok-inner-in-Function.inner in
-    put_function c.args.from c.args.passed.now c.args.term.now c.args.under (part_tree c.args.part.now) c.in-Function.inner y c.shallow-in-Function.result e c.in_ok-inner-in-Function.ensures (c.shallow-in-Function.ensures (fn y) c.function.ensures)
+    put_function c.args.from c.args.passed.now c.args.term.now c.args.under (part_tree c.args.part.now) c.in-Function.inner y c.function_of.result e c.in_ok-inner-in-Function.ensures c.function_of.ensures
 
 pub returns-in_ok-arg-in-Ap : goal.returns-in_ok-arg-in-Ap
 returns-in_ok-arg-in-Ap t c =
     let e : apply_to c.in-Ap.head c.in-Ap.arg ≡ c.args.term.now = sym (ap pure_tree c.in-Ap.is) ∙ c.form.ensures.is in
     let a = c.in_ok-head-in-Ap.head in
     let b = c.in_ok-arg-in-Ap.arg in
-    put_apply c.args.from c.args.passed.now c.args.term.now c.args.under (part_tree c.args.part.now) c.in-Ap.head c.in-Ap.arg a b c.shallow-in-Ap.result e c.in_ok-head-in-Ap.ensures c.in_ok-arg-in-Ap.ensures (c.shallow-in-Ap.ensures (apply_to a b) c.ap.ensures)
+    put_apply c.args.from c.args.passed.now c.args.term.now c.args.under (part_tree c.args.part.now) c.in-Ap.head c.in-Ap.arg a b c.ap_of.result e c.in_ok-head-in-Ap.ensures c.in_ok-arg-in-Ap.ensures c.ap_of.ensures

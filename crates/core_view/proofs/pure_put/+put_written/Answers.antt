@@ -1,15 +1,12 @@
-use Rattle.std.proofs.Common.{◌≡◌, ◌≤◌, sym, ap, ◌∙◌, arith, rules}
+use Rattle.std.proofs.Common.{rules}
 use Rattle.std.proofs.lemmas.Result.{err_from_is_err_and}
 use Rattle.cdle_model.specs.Trees.{name, var}
-use Rattle.cdle_model.specs.Forms.{fn, ap as apply_to}
+use Rattle.cdle_model.specs.Forms.{fn}
 use Rattle.cdle_model.specs.Classes.{with_use}
-use Rattle.cdle_model.specs.Depth.{free_bound}
 use Rattle.cdle_model.specs.Erasure.{erased}
-use Rattle.core_tree.specs.Forms.{pure_tree}
 use Rattle.core_view.specs.Parts.{part_sort, part_tree}
-use Rattle.core_view.specs.Passed.{renumbered}
 use Rattle.core_view.proofs.Parts.{apply_fits, function_used}
-use Rattle.core_view.proofs.Puts.{put_function, put_function_stops, put_apply, put_head_stops, put_arg_stops, put_name, put_identity, put_spared}
+use Rattle.core_view.proofs.Puts.{put_function, put_function_stops, put_apply, put_head_stops, put_arg_stops, put_name, put_identity}
 use Rattle.core_view.proofs.pure_put.+put_written.Goals as goal
 
 pub put_written-requires : goal.put_written-requires
@@ -49,13 +46,13 @@ returns-in-Name t c =
 pub returns-in_ok-inner-in-Lam : goal.returns-in_ok-inner-in-Lam
 returns-in_ok-inner-in-Lam t c =
     let y = c.in_ok-inner-in-Lam.inner in
-    put_function c.args.from c.args.passed.now (erased c.args.term.now) c.args.under (part_tree c.args.part.now) (erased c.in-Lam.inner.now) y c.shallow-in-Lam.result c.in-Lam.ensures.erasure c.in_ok-inner-in-Lam.ensures (c.shallow-in-Lam.ensures (fn y) c.function.ensures)
+    put_function c.args.from c.args.passed.now (erased c.args.term.now) c.args.under (part_tree c.args.part.now) (erased c.in-Lam.inner.now) y c.function_of.result c.in-Lam.ensures.erasure c.in_ok-inner-in-Lam.ensures c.function_of.ensures
 
 pub returns-in_ok-arg-in-App : goal.returns-in_ok-arg-in-App
 returns-in_ok-arg-in-App t c =
     let a = c.in_ok-head-in-App.head in
     let b = c.in_ok-arg-in-App.arg in
-    put_apply c.args.from c.args.passed.now (erased c.args.term.now) c.args.under (part_tree c.args.part.now) (erased c.in-App.head.now) (erased c.in-App.arg.now) a b c.shallow-in-App.result c.in-App.ensures.erasure c.in_ok-head-in-App.ensures c.in_ok-arg-in-App.ensures (c.shallow-in-App.ensures (apply_to a b) c.ap.ensures)
+    put_apply c.args.from c.args.passed.now (erased c.args.term.now) c.args.under (part_tree c.args.part.now) (erased c.in-App.head.now) (erased c.in-App.arg.now) a b c.ap_of.result c.in-App.ensures.erasure c.in_ok-head-in-App.ensures c.in_ok-arg-in-App.ensures c.ap_of.ensures
 
 pub returns-in-Identity : goal.returns-in-Identity
 returns-in-Identity t c =

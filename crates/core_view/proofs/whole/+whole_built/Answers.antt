@@ -1,13 +1,11 @@
 use Rattle.std.proofs.Common.{◌≡◌, ◌+◌, sym, ap, ap₂, ◌∙◌, subst, IfOk, arith, rules}
-use Rattle.cdle_model.specs.Trees.{Tree, name, var}
+use Rattle.cdle_model.specs.Trees.{Tree, name}
 use Rattle.cdle_model.specs.Forms.{fn, ap as apply_to}
 use Rattle.cdle_model.specs.Classes.{anything}
 use Rattle.cdle_model.specs.Depth.{depth}
-use Rattle.cdle_model.specs.Erasure.{erased}
 use Rattle.core_tree.specs.Forms.{pure_tree}
-use Rattle.core_view.proofs.Erasures.{depth_erased}
 use Rattle.core_view.proofs.Numbers.{renumbered_depth}
-use Rattle.core_view.proofs.Parts.{function_is, function_fits, apply_is, apply_fits, name_is, identity_is}
+use Rattle.core_view.proofs.Parts.{function_is, function_fits, apply_is, apply_fits, name_is}
 use Rattle.core_view.proofs.whole.+whole_built.Goals as goal
 
 pub whole_built-requires : goal.whole_built-requires
@@ -28,18 +26,18 @@ whole_built-requires-in-Ap-2 t c =
     let h = (apply_fits c.args.from c.args.passed.now c.args.term.now anything c.in-Ap.head c.in-Ap.arg e c.requires.class).1 in
     search (rules, h)
 
-pub function-requires : goal.function-requires
-function-requires t c =
+pub function_of-requires : goal.function_of-requires
+function_of-requires t c =
     let e : fn c.in-Function.part ≡ c.args.term.now = sym (ap pure_tree c.in-Function.is) ∙ c.form.ensures.is in
     omega (arith, ap depth c.in_ok-part-in-Function.ensures, renumbered_depth (c.args.from + 1) c.args.passed.now c.in-Function.part, ap depth e, c.requires.room)
 
-pub ap-requires-clause-head_depth : goal.ap-requires-clause-head_depth
-ap-requires-clause-head_depth t c =
+pub ap_of-requires-clause-head_depth : goal.ap_of-requires-clause-head_depth
+ap_of-requires-clause-head_depth t c =
     let e : apply_to c.in-Ap.head c.in-Ap.arg ≡ c.args.term.now = sym (ap pure_tree c.in-Ap.is) ∙ c.form.ensures.is in
     omega (arith, ap depth c.in_ok-head-in-Ap.ensures, renumbered_depth c.args.from c.args.passed.now c.in-Ap.head, ap depth e, c.requires.room)
 
-pub ap-requires-clause-arg_depth : goal.ap-requires-clause-arg_depth
-ap-requires-clause-arg_depth t c =
+pub ap_of-requires-clause-arg_depth : goal.ap_of-requires-clause-arg_depth
+ap_of-requires-clause-arg_depth t c =
     let e : apply_to c.in-Ap.head c.in-Ap.arg ≡ c.args.term.now = sym (ap pure_tree c.in-Ap.is) ∙ c.form.ensures.is in
     omega (arith, ap depth c.in_ok-arg-in-Ap.ensures, renumbered_depth c.args.from c.args.passed.now c.in-Ap.arg, ap depth e, c.requires.room)
 
@@ -51,9 +49,9 @@ returns-in-Name t c =
 pub returns-in_ok-part-in-Function : goal.returns-in_ok-part-in-Function
 returns-in_ok-part-in-Function t c =
     let e : fn c.in-Function.part ≡ c.args.term.now = sym (ap pure_tree c.in-Function.is) ∙ c.form.ensures.is in
-    subst (λ z. IfOk c.function.result (λ (y : Tree). y ≡ z)) (ap fn c.in_ok-part-in-Function.ensures ∙ function_is c.args.from c.args.passed.now c.args.term.now c.in-Function.part e) c.function.ensures
+    subst (λ z. IfOk c.function_of.result (λ (y : Tree). y ≡ z)) (ap fn c.in_ok-part-in-Function.ensures ∙ function_is c.args.from c.args.passed.now c.args.term.now c.in-Function.part e) c.function_of.ensures
 
 pub returns-in_ok-arg-in-Ap : goal.returns-in_ok-arg-in-Ap
 returns-in_ok-arg-in-Ap t c =
     let e : apply_to c.in-Ap.head c.in-Ap.arg ≡ c.args.term.now = sym (ap pure_tree c.in-Ap.is) ∙ c.form.ensures.is in
-    subst (λ z. IfOk c.ap.result (λ (y : Tree). y ≡ z)) (ap₂ apply_to c.in_ok-head-in-Ap.ensures c.in_ok-arg-in-Ap.ensures ∙ apply_is c.args.from c.args.passed.now c.args.term.now c.in-Ap.head c.in-Ap.arg e) c.ap.ensures
+    subst (λ z. IfOk c.ap_of.result (λ (y : Tree). y ≡ z)) (ap₂ apply_to c.in_ok-head-in-Ap.ensures c.in_ok-arg-in-Ap.ensures ∙ apply_is c.args.from c.args.passed.now c.args.term.now c.in-Ap.head c.in-Ap.arg e) c.ap_of.ensures
