@@ -25,8 +25,8 @@ PutGives t (Ok r) = (r ≡ t) × (depth t ≤ 4096)
 PutGives t (Err TooDeep) = 4096 < depth t
 PutGives t (Err NoMemory) = Unit {0}
 
--- whether a node may stand over parts of this depth
+-- whether a put may give a tree of this depth
 abbrev pub HasRoom : ℕ → Result (Unit {0}) PutStop → Type 0
-HasRoom d (Ok _) = d < 4096
-HasRoom d (Err TooDeep) = 4096 ≤ d
+HasRoom d (Ok _) = d ≤ 4096
+HasRoom d (Err TooDeep) = 4096 < d
 HasRoom d (Err NoMemory) = ⊥

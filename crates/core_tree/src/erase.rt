@@ -3,8 +3,8 @@ ghost use Rattle.std.specs.Prelude.{◌≡◌, ◌≤◌, IfOk};
 ghost use Rattle.cdle_model.specs.Depth.{depth};
 ghost use Rattle.cdle_model.specs.Erasure.{HasErasure, erased};
 
-use crate::guide::{Guide, GuideKind};
-use crate::pure::Pure;
+use crate::guide::{Guide, GuideForm, GuideKind, GuideKindForm};
+use crate::pure::{Pure, PureForm};
 use crate::term::{Kind, KindForm, Term, TermForm, Ty, TyForm};
 use cdle_model::NoMemory;
 use std::alloc::Global;
@@ -22,7 +22,7 @@ impl Term {
             TermForm::Name(item) => Pure::name(alloc, *item),
             TermForm::Lam(_, part) => {
                 let part = part.erase(alloc)?;
-                Pure::function(alloc, &part)
+                Pure::of(alloc, PureForm::Function(part))
             }
             TermForm::Elam(_, part) => {
                 let part = part.erase(alloc)?;
@@ -35,7 +35,7 @@ impl Term {
             TermForm::App(head, arg) => {
                 let head = head.erase(alloc)?;
                 let arg = arg.erase(alloc)?;
-                Pure::ap(alloc, &head, &arg)
+                Pure::of(alloc, PureForm::Ap(head, arg))
             }
             TermForm::Eapp(head, _) => head.erase(alloc),
             TermForm::Tapp(head, _) => head.erase(alloc),
@@ -47,7 +47,7 @@ impl Term {
             TermForm::Phi(_, _, kept) => kept.share(),
             TermForm::Delta(_, _) => {
                 let zero = Pure::var(alloc, 0)?;
-                Pure::function(alloc, &zero)
+                Pure::of(alloc, PureForm::Function(zero))
             }
         }
     }
@@ -68,40 +68,40 @@ impl Ty {
             TyForm::Pi(domain, part) => {
                 let domain = domain.erase(alloc)?;
                 let part = part.erase(alloc)?;
-                Guide::pi(alloc, &domain, &part)
+                Guide::of(alloc, GuideForm::Pi(domain, part))
             }
             TyForm::All(domain, part) => {
                 let domain = domain.erase(alloc)?;
                 let part = part.erase(alloc)?;
-                Guide::all(alloc, &domain, &part)
+                Guide::of(alloc, GuideForm::All(domain, part))
             }
             TyForm::Allt(domain, part) => {
                 let domain = domain.erase(alloc)?;
                 let part = part.erase(alloc)?;
-                Guide::allt(alloc, &domain, &part)
+                Guide::of(alloc, GuideForm::Allt(domain, part))
             }
             TyForm::Tlam(_, part) => {
                 let part = part.erase(alloc)?;
-                Guide::tlam(alloc, &part)
+                Guide::of(alloc, GuideForm::Tlam(part))
             }
             TyForm::Xtlam(_, part) => {
                 let part = part.erase(alloc)?;
-                Guide::xtlam(alloc, &part)
+                Guide::of(alloc, GuideForm::Xtlam(part))
             }
             TyForm::At(head, arg) => {
                 let head = head.erase(alloc)?;
                 let arg = arg.erase(alloc)?;
-                Guide::at(alloc, &head, &arg)
+                Guide::of(alloc, GuideForm::At(head, arg))
             }
             TyForm::On(head, arg) => {
                 let head = head.erase(alloc)?;
                 let arg = arg.erase(alloc)?;
-                Guide::on(alloc, &head, &arg)
+                Guide::of(alloc, GuideForm::On(head, arg))
             }
             TyForm::Iota(left, right) => {
                 let left = left.erase(alloc)?;
                 let right = right.erase(alloc)?;
-                Guide::iota(alloc, &left, &right)
+                Guide::of(alloc, GuideForm::Iota(left, right))
             }
             TyForm::Eq(left, right) => Guide::eq(alloc, left, right),
         }
@@ -122,12 +122,12 @@ impl Kind {
             KindForm::Kpi(domain, part) => {
                 let domain = domain.erase(alloc)?;
                 let part = part.erase(alloc)?;
-                GuideKind::kpi(alloc, &domain, &part)
+                GuideKind::of(alloc, GuideKindForm::Kpi(domain, part))
             }
             KindForm::Kpit(domain, part) => {
                 let domain = domain.erase(alloc)?;
                 let part = part.erase(alloc)?;
-                GuideKind::kpit(alloc, &domain, &part)
+                GuideKind::of(alloc, GuideKindForm::Kpit(domain, part))
             }
         }
     }

@@ -160,32 +160,20 @@ impl Guide {
         ensures same { IfOk result (λ t. t ≡ self.now) }
         ensures class { IsOf guides self.now }
     {
-        match self.node.clone() {
-            Ok(node) => Ok(Guide { node }),
-            Err(_) => Err(NoMemory),
-        }
+        let node = self.node.clone()?;
+        Ok(Guide { node })
     }
 
-    pub(crate) fn leaf(alloc: Global, free: u64, form: GuideForm) -> Result<Guide, NoMemory>
-        requires { IsOpenNode guides 65535 0 free (guide_tree form) }
+    /// The node of that form.
+    pub(crate) fn of(alloc: Global, form: GuideForm) -> Result<Guide, NoMemory>
+        requires { depth (guide_tree form) ≤ 65535 }
         ensures { IfOk result (λ t. t ≡ guide_tree form) }
     {
-        Guide::make(alloc, 0, free, 0, form)
-    }
-
-    pub(crate) fn make(
-        alloc: Global,
-        depth: u32,
-        free: u64,
-        parts: u64,
-        form: GuideForm,
-    ) -> Result<Guide, NoMemory>
-        requires { IsOpenNode guides 65535 depth free (guide_tree form) }
-        ensures { IfOk result (λ t. t ≡ guide_tree form) }
-    {
+        let depth = form.depth();
+        let free = form.free();
+        let nodes = count_open(free, form.nodes());
         refuse_deep(depth)?;
-        let nodes = count_open(free, parts);
-        match Rc::new(
+        let node = Rc::new(
             alloc,
             GuideNode {
                 depth,
@@ -193,10 +181,8 @@ impl Guide {
                 nodes,
                 form,
             },
-        ) {
-            Ok(node) => Ok(Guide { node }),
-            Err(_) => Err(NoMemory),
-        }
+        )?;
+        Ok(Guide { node })
     }
 }
 
@@ -241,32 +227,20 @@ impl GuideKind {
         ensures same { IfOk result (λ t. t ≡ self.now) }
         ensures class { IsOf guide_kinds self.now }
     {
-        match self.node.clone() {
-            Ok(node) => Ok(GuideKind { node }),
-            Err(_) => Err(NoMemory),
-        }
+        let node = self.node.clone()?;
+        Ok(GuideKind { node })
     }
 
-    pub(crate) fn leaf(alloc: Global, free: u64, form: GuideKindForm) -> Result<GuideKind, NoMemory>
-        requires { IsOpenNode guide_kinds 65535 0 free (guide_kind_tree form) }
+    /// The node of that form.
+    pub(crate) fn of(alloc: Global, form: GuideKindForm) -> Result<GuideKind, NoMemory>
+        requires { depth (guide_kind_tree form) ≤ 65535 }
         ensures { IfOk result (λ t. t ≡ guide_kind_tree form) }
     {
-        GuideKind::make(alloc, 0, free, 0, form)
-    }
-
-    pub(crate) fn make(
-        alloc: Global,
-        depth: u32,
-        free: u64,
-        parts: u64,
-        form: GuideKindForm,
-    ) -> Result<GuideKind, NoMemory>
-        requires { IsOpenNode guide_kinds 65535 depth free (guide_kind_tree form) }
-        ensures { IfOk result (λ t. t ≡ guide_kind_tree form) }
-    {
+        let depth = form.depth();
+        let free = form.free();
+        let nodes = count_open(free, form.nodes());
         refuse_deep(depth)?;
-        let nodes = count_open(free, parts);
-        match Rc::new(
+        let node = Rc::new(
             alloc,
             GuideKindNode {
                 depth,
@@ -274,9 +248,101 @@ impl GuideKind {
                 nodes,
                 form,
             },
-        ) {
-            Ok(node) => Ok(GuideKind { node }),
-            Err(_) => Err(NoMemory),
+        )?;
+        Ok(GuideKind { node })
+    }
+}
+
+impl GuideForm {
+    /// The depth of its node, and for a proof the class of the tree.
+    fn depth(&self) -> u32
+        ensures is { result ≡ depth (guide_tree self.now) }
+        ensures class { IsOf guides (guide_tree self.now) }
+    {
+        match self {
+            GuideForm::Var(_) | GuideForm::Name(_) => 0,
+            GuideForm::Pi(left, right)
+            | GuideForm::All(left, right)
+            | GuideForm::On(left, right)
+            | GuideForm::Iota(left, right) => left.node.depth.max(right.node.depth) + 1,
+            GuideForm::Allt(domain, part) => domain.node.depth.max(part.node.depth) + 1,
+            GuideForm::Tlam(part) | GuideForm::Xtlam(part) => part.node.depth + 1,
+            GuideForm::At(head, arg) => {
+                arg.known();
+                head.node.depth.max(arg.depth()) + 1
+            }
+            GuideForm::Eq(left, right) => {
+                left.known();
+                right.known();
+                left.depth().max(right.depth()) + 1
+            }
+        }
+    }
+
+    /// One more than the largest free variable, and 0 of a closed tree.
+    fn free(&self) -> u64
+        ensures { result ≡ free_bound (guide_tree self.now) }
+    {
+        match self {
+            GuideForm::Var(index) => *index as u64 + 1,
+            GuideForm::Name(_) => 0,
+            GuideForm::Pi(domain, part)
+            | GuideForm::All(domain, part)
+            | GuideForm::Iota(domain, part) => domain.free().max(part.free().saturating_sub(1)),
+            GuideForm::Allt(domain, part) => domain.free().max(part.free().saturating_sub(1)),
+            GuideForm::Tlam(part) | GuideForm::Xtlam(part) => part.free().saturating_sub(1),
+            GuideForm::At(head, arg) => head.free().max(arg.free()),
+            GuideForm::On(head, arg) => head.free().max(arg.free()),
+            GuideForm::Eq(left, right) => left.free().max(right.free()),
+        }
+    }
+
+    /// How many nodes of the parts have a free variable, or the counter's last value.
+    fn nodes(&self) -> u64 {
+        match self {
+            GuideForm::Var(_) | GuideForm::Name(_) => 0,
+            GuideForm::Pi(left, right)
+            | GuideForm::All(left, right)
+            | GuideForm::On(left, right)
+            | GuideForm::Iota(left, right) => left.nodes().saturating_add(right.nodes()),
+            GuideForm::Allt(domain, part) => domain.nodes().saturating_add(part.nodes()),
+            GuideForm::Tlam(part) | GuideForm::Xtlam(part) => part.nodes(),
+            GuideForm::At(head, arg) => head.nodes().saturating_add(arg.nodes()),
+            GuideForm::Eq(left, right) => left.nodes().saturating_add(right.nodes()),
+        }
+    }
+}
+
+impl GuideKindForm {
+    /// The depth of its node, and for a proof the class of the tree.
+    fn depth(&self) -> u32
+        ensures is { result ≡ depth (guide_kind_tree self.now) }
+        ensures class { IsOf guide_kinds (guide_kind_tree self.now) }
+    {
+        match self {
+            GuideKindForm::Star => 0,
+            GuideKindForm::Kpi(domain, part) => domain.node.depth.max(part.node.depth) + 1,
+            GuideKindForm::Kpit(domain, part) => domain.node.depth.max(part.node.depth) + 1,
+        }
+    }
+
+    /// One more than the largest free variable, and 0 of a closed tree.
+    fn free(&self) -> u64
+        ensures { result ≡ free_bound (guide_kind_tree self.now) }
+    {
+        match self {
+            GuideKindForm::Star => 0,
+            GuideKindForm::Kpi(domain, part) => domain.free().max(part.free().saturating_sub(1)),
+            GuideKindForm::Kpit(domain, part) => domain.free().max(part.free().saturating_sub(1)),
+        }
+    }
+
+    /// How many nodes of the parts have a free variable, or the counter's last value.
+    fn nodes(&self) -> u64 {
+        match self {
+            GuideKindForm::Star => 0,
+            GuideKindForm::Kpi(domain, part) => domain.nodes().saturating_add(part.nodes()),
+            GuideKindForm::Kpit(domain, part) => domain.nodes().saturating_add(part.nodes()),
         }
     }
 }

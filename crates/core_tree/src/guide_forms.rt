@@ -14,14 +14,14 @@ impl Guide {
     pub fn var(alloc: Global, index: u32) -> Result<Guide, NoMemory>
         ensures { IfOk result (λ t. t ≡ var index) }
     {
-        Guide::leaf(alloc, index as u64 + 1, GuideForm::Var(index))
+        Guide::of(alloc, GuideForm::Var(index))
     }
 
     /// The item of that number.
     pub fn name(alloc: Global, item: u32) -> Result<Guide, NoMemory>
         ensures { IfOk result (λ t. t ≡ name item) }
     {
-        Guide::leaf(alloc, 0, GuideForm::Name(item))
+        Guide::of(alloc, GuideForm::Name(item))
     }
 
     /// `(pi x domain part)`.
@@ -30,16 +30,7 @@ impl Guide {
         requires part_depth { depth part.now < 65535 }
         ensures { IfOk result (λ t. t ≡ pi domain.now part.now) }
     {
-        let depth = domain.depth().max(part.depth()) + 1;
-        let free = domain.free().max(part.free().saturating_sub(1));
-        let nodes = domain.nodes().saturating_add(part.nodes());
-        Guide::make(
-            alloc,
-            depth,
-            free,
-            nodes,
-            GuideForm::Pi(domain.share()?, part.share()?),
-        )
+        Guide::of(alloc, GuideForm::Pi(domain.share()?, part.share()?))
     }
 
     /// `(all x domain part)`.
@@ -48,16 +39,7 @@ impl Guide {
         requires part_depth { depth part.now < 65535 }
         ensures { IfOk result (λ t. t ≡ all domain.now part.now) }
     {
-        let depth = domain.depth().max(part.depth()) + 1;
-        let free = domain.free().max(part.free().saturating_sub(1));
-        let nodes = domain.nodes().saturating_add(part.nodes());
-        Guide::make(
-            alloc,
-            depth,
-            free,
-            nodes,
-            GuideForm::All(domain.share()?, part.share()?),
-        )
+        Guide::of(alloc, GuideForm::All(domain.share()?, part.share()?))
     }
 
     /// `(allt X domain part)`.
@@ -66,16 +48,7 @@ impl Guide {
         requires part_depth { depth part.now < 65535 }
         ensures { IfOk result (λ t. t ≡ allt domain.now part.now) }
     {
-        let depth = domain.depth().max(part.depth()) + 1;
-        let free = domain.free().max(part.free().saturating_sub(1));
-        let nodes = domain.nodes().saturating_add(part.nodes());
-        Guide::make(
-            alloc,
-            depth,
-            free,
-            nodes,
-            GuideForm::Allt(domain.share()?, part.share()?),
-        )
+        Guide::of(alloc, GuideForm::Allt(domain.share()?, part.share()?))
     }
 
     /// `(tlam x part)`.
@@ -83,10 +56,7 @@ impl Guide {
         requires { depth part.now < 65535 }
         ensures { IfOk result (λ t. t ≡ guide_tlam part.now) }
     {
-        let depth = part.depth() + 1;
-        let free = part.free().saturating_sub(1);
-        let nodes = part.nodes();
-        Guide::make(alloc, depth, free, nodes, GuideForm::Tlam(part.share()?))
+        Guide::of(alloc, GuideForm::Tlam(part.share()?))
     }
 
     /// `(xtlam X part)`.
@@ -94,10 +64,7 @@ impl Guide {
         requires { depth part.now < 65535 }
         ensures { IfOk result (λ t. t ≡ guide_xtlam part.now) }
     {
-        let depth = part.depth() + 1;
-        let free = part.free().saturating_sub(1);
-        let nodes = part.nodes();
-        Guide::make(alloc, depth, free, nodes, GuideForm::Xtlam(part.share()?))
+        Guide::of(alloc, GuideForm::Xtlam(part.share()?))
     }
 
     /// `(at head arg)`.
@@ -106,16 +73,7 @@ impl Guide {
         requires arg_depth { depth arg.now < 65535 }
         ensures { IfOk result (λ t. t ≡ at_ head.now arg.now) }
     {
-        let depth = head.depth().max(arg.depth()) + 1;
-        let free = head.free().max(arg.free());
-        let nodes = head.nodes().saturating_add(arg.nodes());
-        Guide::make(
-            alloc,
-            depth,
-            free,
-            nodes,
-            GuideForm::At(head.share()?, arg.share()?),
-        )
+        Guide::of(alloc, GuideForm::At(head.share()?, arg.share()?))
     }
 
     /// `(on head arg)`.
@@ -124,16 +82,7 @@ impl Guide {
         requires arg_depth { depth arg.now < 65535 }
         ensures { IfOk result (λ t. t ≡ on head.now arg.now) }
     {
-        let depth = head.depth().max(arg.depth()) + 1;
-        let free = head.free().max(arg.free());
-        let nodes = head.nodes().saturating_add(arg.nodes());
-        Guide::make(
-            alloc,
-            depth,
-            free,
-            nodes,
-            GuideForm::On(head.share()?, arg.share()?),
-        )
+        Guide::of(alloc, GuideForm::On(head.share()?, arg.share()?))
     }
 
     /// `(iota x left right)`.
@@ -142,16 +91,7 @@ impl Guide {
         requires right_depth { depth right.now < 65535 }
         ensures { IfOk result (λ t. t ≡ iota left.now right.now) }
     {
-        let depth = left.depth().max(right.depth()) + 1;
-        let free = left.free().max(right.free().saturating_sub(1));
-        let nodes = left.nodes().saturating_add(right.nodes());
-        Guide::make(
-            alloc,
-            depth,
-            free,
-            nodes,
-            GuideForm::Iota(left.share()?, right.share()?),
-        )
+        Guide::of(alloc, GuideForm::Iota(left.share()?, right.share()?))
     }
 
     /// `(eq left right)`.
@@ -160,16 +100,7 @@ impl Guide {
         requires right_depth { depth right.now < 65535 }
         ensures { IfOk result (λ t. t ≡ eq left.now right.now) }
     {
-        let depth = left.depth().max(right.depth()) + 1;
-        let free = left.free().max(right.free());
-        let nodes = left.nodes().saturating_add(right.nodes());
-        Guide::make(
-            alloc,
-            depth,
-            free,
-            nodes,
-            GuideForm::Eq(left.share()?, right.share()?),
-        )
+        Guide::of(alloc, GuideForm::Eq(left.share()?, right.share()?))
     }
 }
 
@@ -178,7 +109,7 @@ impl GuideKind {
     pub fn star(alloc: Global) -> Result<GuideKind, NoMemory>
         ensures { IfOk result (λ t. t ≡ star) }
     {
-        GuideKind::leaf(alloc, 0, GuideKindForm::Star)
+        GuideKind::of(alloc, GuideKindForm::Star)
     }
 
     /// `(kpi x domain part)`.
@@ -187,16 +118,7 @@ impl GuideKind {
         requires part_depth { depth part.now < 65535 }
         ensures { IfOk result (λ t. t ≡ kpi domain.now part.now) }
     {
-        let depth = domain.depth().max(part.depth()) + 1;
-        let free = domain.free().max(part.free().saturating_sub(1));
-        let nodes = domain.nodes().saturating_add(part.nodes());
-        GuideKind::make(
-            alloc,
-            depth,
-            free,
-            nodes,
-            GuideKindForm::Kpi(domain.share()?, part.share()?),
-        )
+        GuideKind::of(alloc, GuideKindForm::Kpi(domain.share()?, part.share()?))
     }
 
     /// `(kpit X domain part)`.
@@ -205,15 +127,6 @@ impl GuideKind {
         requires part_depth { depth part.now < 65535 }
         ensures { IfOk result (λ t. t ≡ kpit domain.now part.now) }
     {
-        let depth = domain.depth().max(part.depth()) + 1;
-        let free = domain.free().max(part.free().saturating_sub(1));
-        let nodes = domain.nodes().saturating_add(part.nodes());
-        GuideKind::make(
-            alloc,
-            depth,
-            free,
-            nodes,
-            GuideKindForm::Kpit(domain.share()?, part.share()?),
-        )
+        GuideKind::of(alloc, GuideKindForm::Kpit(domain.share()?, part.share()?))
     }
 }

@@ -35,49 +35,49 @@ impl Guide {
             return self.share();
         }
         match self.form() {
-            GuideForm::Var(index) => Guide::var(alloc, *index + by),
+            GuideForm::Var(index) => Guide::of(alloc, GuideForm::Var(*index + by)),
             GuideForm::Pi(domain, part) => {
                 let domain = domain.shift_from(alloc, from, by)?;
                 let part = part.shift_from(alloc, from + 1, by)?;
-                Guide::pi(alloc, &domain, &part)
+                Guide::of(alloc, GuideForm::Pi(domain, part))
             }
             GuideForm::All(domain, part) => {
                 let domain = domain.shift_from(alloc, from, by)?;
                 let part = part.shift_from(alloc, from + 1, by)?;
-                Guide::all(alloc, &domain, &part)
+                Guide::of(alloc, GuideForm::All(domain, part))
             }
             GuideForm::Allt(domain, part) => {
                 let domain = domain.shift_from(alloc, from, by)?;
                 let part = part.shift_from(alloc, from + 1, by)?;
-                Guide::allt(alloc, &domain, &part)
+                Guide::of(alloc, GuideForm::Allt(domain, part))
             }
             GuideForm::Tlam(part) => {
                 let part = part.shift_from(alloc, from + 1, by)?;
-                Guide::tlam(alloc, &part)
+                Guide::of(alloc, GuideForm::Tlam(part))
             }
             GuideForm::Xtlam(part) => {
                 let part = part.shift_from(alloc, from + 1, by)?;
-                Guide::xtlam(alloc, &part)
+                Guide::of(alloc, GuideForm::Xtlam(part))
             }
             GuideForm::At(head, arg) => {
                 let head = head.shift_from(alloc, from, by)?;
                 let arg = arg.shift_from(alloc, from, by)?;
-                Guide::at(alloc, &head, &arg)
+                Guide::of(alloc, GuideForm::At(head, arg))
             }
             GuideForm::On(head, arg) => {
                 let head = head.shift_from(alloc, from, by)?;
                 let arg = arg.shift_from(alloc, from, by)?;
-                Guide::on(alloc, &head, &arg)
+                Guide::of(alloc, GuideForm::On(head, arg))
             }
             GuideForm::Iota(left, right) => {
                 let left = left.shift_from(alloc, from, by)?;
                 let right = right.shift_from(alloc, from + 1, by)?;
-                Guide::iota(alloc, &left, &right)
+                Guide::of(alloc, GuideForm::Iota(left, right))
             }
             GuideForm::Eq(left, right) => {
                 let left = left.shift_from(alloc, from, by)?;
                 let right = right.shift_from(alloc, from, by)?;
-                Guide::eq(alloc, &left, &right)
+                Guide::of(alloc, GuideForm::Eq(left, right))
             }
             _ => self.share(),
         }
@@ -118,12 +118,12 @@ impl GuideKind {
             GuideKindForm::Kpi(domain, part) => {
                 let domain = domain.shift_from(alloc, from, by)?;
                 let part = part.shift_from(alloc, from + 1, by)?;
-                GuideKind::kpi(alloc, &domain, &part)
+                GuideKind::of(alloc, GuideKindForm::Kpi(domain, part))
             }
             GuideKindForm::Kpit(domain, part) => {
                 let domain = domain.shift_from(alloc, from, by)?;
                 let part = part.shift_from(alloc, from + 1, by)?;
-                GuideKind::kpit(alloc, &domain, &part)
+                GuideKind::of(alloc, GuideKindForm::Kpit(domain, part))
             }
             GuideKindForm::Star => self.share(),
         }

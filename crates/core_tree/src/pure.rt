@@ -68,14 +68,14 @@ impl Pure {
     pub fn var(alloc: Global, index: u32) -> Result<Pure, NoMemory>
         ensures { IfOk result (λ t. t ≡ var index) }
     {
-        Pure::leaf(alloc, index as u64 + 1, PureForm::Var(index))
+        Pure::of(alloc, PureForm::Var(index))
     }
 
     /// The item of that number.
     pub fn name(alloc: Global, item: u32) -> Result<Pure, NoMemory>
         ensures { IfOk result (λ t. t ≡ name item) }
     {
-        Pure::leaf(alloc, 0, PureForm::Name(item))
+        Pure::of(alloc, PureForm::Name(item))
     }
 
     /// `(fn x part)`.
@@ -83,10 +83,7 @@ impl Pure {
         requires { depth part.now < 65535 }
         ensures { IfOk result (λ t. t ≡ fn part.now) }
     {
-        let depth = part.depth() + 1;
-        let free = part.free().saturating_sub(1);
-        let nodes = part.nodes();
-        Pure::make(alloc, depth, free, nodes, PureForm::Function(part.share()?))
+        Pure::of(alloc, PureForm::Function(part.share()?))
     }
 
     /// `(ap head arg)`.
@@ -95,16 +92,7 @@ impl Pure {
         requires arg_depth { depth arg.now < 65535 }
         ensures { IfOk result (λ t. t ≡ ap head.now arg.now) }
     {
-        let depth = head.depth().max(arg.depth()) + 1;
-        let free = head.free().max(arg.free());
-        let nodes = head.nodes().saturating_add(arg.nodes());
-        Pure::make(
-            alloc,
-            depth,
-            free,
-            nodes,
-            PureForm::Ap(head.share()?, arg.share()?),
-        )
+        Pure::of(alloc, PureForm::Ap(head.share()?, arg.share()?))
     }
 
     /// The form, with its parts.
@@ -147,31 +135,19 @@ impl Pure {
         ensures same { IfOk result (λ t. t ≡ self.now) }
         ensures class { IsOf pure_terms self.now }
     {
-        match self.node.clone() {
-            Ok(node) => Ok(Pure { node }),
-            Err(_) => Err(NoMemory),
-        }
+        let node = self.node.clone()?;
+        Ok(Pure { node })
     }
 
-    pub(crate) fn leaf(alloc: Global, free: u64, form: PureForm) -> Result<Pure, NoMemory>
-        requires { IsOpenNode pure_terms 65535 0 free (pure_tree form) }
+    /// The node of that form.
+    pub(crate) fn of(alloc: Global, form: PureForm) -> Result<Pure, NoMemory>
+        requires { depth (pure_tree form) ≤ 65535 }
         ensures { IfOk result (λ t. t ≡ pure_tree form) }
     {
-        Pure::make(alloc, 0, free, 0, form)
-    }
-
-    pub(crate) fn make(
-        alloc: Global,
-        depth: u32,
-        free: u64,
-        parts: u64,
-        form: PureForm,
-    ) -> Result<Pure, NoMemory>
-        requires { IsOpenNode pure_terms 65535 depth free (pure_tree form) }
-        ensures { IfOk result (λ t. t ≡ pure_tree form) }
-    {
-        let nodes = count_open(free, parts);
-        match Rc::new(
+        let depth = form.depth();
+        let free = form.free();
+        let nodes = count_open(free, form.nodes());
+        let node = Rc::new(
             alloc,
             PureNode {
                 depth,
@@ -179,9 +155,42 @@ impl Pure {
                 nodes,
                 form,
             },
-        ) {
-            Ok(node) => Ok(Pure { node }),
-            Err(_) => Err(NoMemory),
+        )?;
+        Ok(Pure { node })
+    }
+}
+
+impl PureForm {
+    /// The depth of its node, and for a proof the class of the tree.
+    fn depth(&self) -> u32
+        ensures is { result ≡ depth (pure_tree self.now) }
+        ensures class { IsOf pure_terms (pure_tree self.now) }
+    {
+        match self {
+            PureForm::Var(_) | PureForm::Name(_) => 0,
+            PureForm::Function(part) => part.node.depth + 1,
+            PureForm::Ap(head, arg) => head.node.depth.max(arg.node.depth) + 1,
+        }
+    }
+
+    /// One more than the largest free variable, and 0 of a closed tree.
+    fn free(&self) -> u64
+        ensures { result ≡ free_bound (pure_tree self.now) }
+    {
+        match self {
+            PureForm::Var(index) => *index as u64 + 1,
+            PureForm::Name(_) => 0,
+            PureForm::Function(part) => part.free().saturating_sub(1),
+            PureForm::Ap(head, arg) => head.free().max(arg.free()),
+        }
+    }
+
+    /// How many nodes of the parts have a free variable, or the counter's last value.
+    fn nodes(&self) -> u64 {
+        match self {
+            PureForm::Var(_) | PureForm::Name(_) => 0,
+            PureForm::Function(part) => part.nodes(),
+            PureForm::Ap(head, arg) => head.nodes().saturating_add(arg.nodes()),
         }
     }
 }

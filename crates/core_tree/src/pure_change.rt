@@ -1,18 +1,19 @@
 //! Raising and lowering the free variables of pure terms, and putting a pure term for one of them.
 ghost use Rattle.std.specs.Prelude.{◌≡◌, ◌+◌, ◌<◌, ◌≤◌, ◌^◌, true, IfOk};
-ghost use Rattle.cdle_model.specs.Trees.{shift, put, lacks, IsBelow};
-ghost use Rattle.cdle_model.specs.Forms.{ap, fn, star};
+ghost use Rattle.cdle_model.specs.Trees.{var, shift, put, lacks, IsBelow};
+ghost use Rattle.cdle_model.specs.Forms.{star};
 ghost use Rattle.cdle_model.specs.Depth.{depth, ShiftFits};
 ghost use Rattle.cdle_model.specs.Classes.{pure_terms, UsedAs};
 ghost use Rattle.cdle_model.specs.declared.grammar.Sort.TheVariants.{OfTerm};
 ghost use Rattle.cdle_model.specs.Erasure.{lowered};
+ghost use Rattle.core_tree.specs.Forms.{pure_tree};
 ghost use Rattle.core_tree.specs.Nodes.{PutGives};
 ghost use Rattle.core_tree.specs.Parts.{part_sort, part_tree};
 
 use crate::part::Part;
 use crate::pure::{Pure, PureForm};
 use crate::sharing::refuse_large;
-use crate::stop::{PutStop, room_above};
+use crate::stop::{PutStop, refuse_too_deep};
 use cdle_model::NoMemory;
 use std::alloc::Global;
 
@@ -42,15 +43,15 @@ impl Pure {
             return self.share();
         }
         match self.form() {
-            PureForm::Var(index) => Pure::var(alloc, *index + by),
+            PureForm::Var(index) => Pure::of(alloc, PureForm::Var(*index + by)),
             PureForm::Function(part) => {
                 let part = part.shift_from(alloc, from + 1, by)?;
-                Pure::function(alloc, &part)
+                Pure::of(alloc, PureForm::Function(part))
             }
             PureForm::Ap(head, arg) => {
                 let head = head.shift_from(alloc, from, by)?;
                 let arg = arg.shift_from(alloc, from, by)?;
-                Pure::ap(alloc, &head, &arg)
+                Pure::of(alloc, PureForm::Ap(head, arg))
             }
             _ => self.share(),
         }
@@ -89,47 +90,58 @@ impl Pure {
             return Ok(self.share()?);
         }
         match self.form() {
-            PureForm::Var(index) => {
-                let index = *index;
-                if (index as u64) > at {
-                    return Ok(Pure::var(alloc, index - 1)?);
-                }
-                match part {
-                    Part::Pure(part) => {
-                        if part.depth() > 4096 {
-                            return Err(PutStop::TooDeep);
-                        }
-                        part.known();
-                        Ok(part.shift(alloc, 0, under)?)
-                    }
-                    _ => Ok(self.share()?),
-                }
-            }
+            PureForm::Var(index) => Pure::put_var(alloc, at, under, part, *index),
             PureForm::Name(_) => Ok(self.share()?),
             PureForm::Function(inner) => {
                 let inner = inner.put_under(alloc, at + 1, under + 1, part)?;
-                Pure::function_within(alloc, &inner)
+                Pure::within(alloc, PureForm::Function(inner))
             }
             PureForm::Ap(head, arg) => {
                 let head = head.put_under(alloc, at, under, part)?;
                 let arg = arg.put_under(alloc, at, under, part)?;
-                Pure::ap_within(alloc, &head, &arg)
+                Pure::within(alloc, PureForm::Ap(head, arg))
             }
         }
     }
 
-    fn function_within(alloc: Global, part: &Pure) -> Result<Pure, PutStop>
-        ensures { PutGives (fn part.now) result }
+    /// The same in the variable `index`, which is not below `at`.
+    #[tactic(auto, using(crate::proofs::Puts::putting))]
+    fn put_var(
+        alloc: Global,
+        at: u64,
+        under: u32,
+        part: &Part<'_>,
+        index: u32,
+    ) -> Result<Pure, PutStop>
+        requires below { IsBelow 4290000000 (part_tree part.now) }
+        requires used { UsedAs (part_sort part.now) at pure_terms (var index) }
+        requires not_below { at ≤ index }
+        requires under_fits { under ≤ 4096 }
+        ensures { PutGives (put at (shift 0 under (part_tree part.now)) (var index)) result }
     {
-        room_above(part.depth())?;
-        Ok(Pure::function(alloc, part)?)
+        if (index as u64) > at {
+            return Ok(Pure::var(alloc, index - 1)?);
+        }
+        match part {
+            Part::Pure(part) => {
+                if part.depth() > 4096 {
+                    return Err(PutStop::TooDeep);
+                }
+                part.known();
+                Ok(part.shift(alloc, 0, under)?)
+            }
+            Part::Guide(_) => unreachable!(),
+        }
     }
 
-    fn ap_within(alloc: Global, head: &Pure, arg: &Pure) -> Result<Pure, PutStop>
-        ensures { PutGives (ap head.now arg.now) result }
+    /// The node of that form, unless it is too deep.
+    fn within(alloc: Global, form: PureForm) -> Result<Pure, PutStop>
+        requires { depth (pure_tree form) ≤ 65535 }
+        ensures { PutGives (pure_tree form) result }
     {
-        room_above(head.depth().max(arg.depth()))?;
-        Ok(Pure::ap(alloc, head, arg)?)
+        let pure = Pure::of(alloc, form)?;
+        refuse_too_deep(pure.depth())?;
+        Ok(pure)
     }
 
     /// Takes the variable 0, which is not in the tree, out of the numbering.
@@ -155,12 +167,12 @@ impl Pure {
             PureForm::Var(index) => Pure::var(alloc, *index - 1),
             PureForm::Function(part) => {
                 let part = part.lower_from(alloc, from + 1)?;
-                Pure::function(alloc, &part)
+                Pure::of(alloc, PureForm::Function(part))
             }
             PureForm::Ap(head, arg) => {
                 let head = head.lower_from(alloc, from)?;
                 let arg = arg.lower_from(alloc, from)?;
-                Pure::ap(alloc, &head, &arg)
+                Pure::of(alloc, PureForm::Ap(head, arg))
             }
             _ => self.share(),
         }

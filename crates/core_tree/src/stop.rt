@@ -21,11 +21,11 @@ impl From<NoMemory> for PutStop {
     }
 }
 
-/// Refuses a node over parts of this depth that would be too deep.
-pub(crate) fn room_above(depth: u32) -> Result<(), PutStop>
+/// Refuses a tree of this depth where it is too deep.
+pub(crate) fn refuse_too_deep(depth: u32) -> Result<(), PutStop>
     ensures { HasRoom depth result }
 {
-    if depth < 4096 {
+    if depth <= 4096 {
         Ok(())
     } else {
         Err(PutStop::TooDeep)

@@ -202,27 +202,18 @@ impl Term {
         ensures same { IfOk result (λ t. t ≡ self.now) }
         ensures class { IsOf terms self.now }
     {
-        match self.node.clone() {
-            Ok(node) => Ok(Term { node }),
-            Err(_) => Err(NoMemory),
-        }
+        let node = self.node.clone()?;
+        Ok(Term { node })
     }
 
-    pub(crate) fn leaf(alloc: Global, form: TermForm) -> Result<Term, NoMemory>
-        requires { IsNode terms 4096 0 (term_tree form) }
+    /// The node of that form.
+    pub(crate) fn of(alloc: Global, form: TermForm) -> Result<Term, NoMemory>
+        requires { depth (term_tree form) ≤ 4096 }
         ensures { IfOk result (λ t. t ≡ term_tree form) }
     {
-        Term::make(alloc, 0, form)
-    }
-
-    pub(crate) fn make(alloc: Global, depth: u32, form: TermForm) -> Result<Term, NoMemory>
-        requires { IsNode terms 4096 depth (term_tree form) }
-        ensures { IfOk result (λ t. t ≡ term_tree form) }
-    {
-        match Rc::new(alloc, TermNode { depth, form }) {
-            Ok(node) => Ok(Term { node }),
-            Err(_) => Err(NoMemory),
-        }
+        let depth = form.depth();
+        let node = Rc::new(alloc, TermNode { depth, form })?;
+        Ok(Term { node })
     }
 }
 
@@ -255,27 +246,18 @@ impl Ty {
         ensures same { IfOk result (λ t. t ≡ self.now) }
         ensures class { IsOf types self.now }
     {
-        match self.node.clone() {
-            Ok(node) => Ok(Ty { node }),
-            Err(_) => Err(NoMemory),
-        }
+        let node = self.node.clone()?;
+        Ok(Ty { node })
     }
 
-    pub(crate) fn leaf(alloc: Global, form: TyForm) -> Result<Ty, NoMemory>
-        requires { IsNode types 4096 0 (ty_tree form) }
+    /// The node of that form.
+    pub(crate) fn of(alloc: Global, form: TyForm) -> Result<Ty, NoMemory>
+        requires { depth (ty_tree form) ≤ 4096 }
         ensures { IfOk result (λ t. t ≡ ty_tree form) }
     {
-        Ty::make(alloc, 0, form)
-    }
-
-    pub(crate) fn make(alloc: Global, depth: u32, form: TyForm) -> Result<Ty, NoMemory>
-        requires { IsNode types 4096 depth (ty_tree form) }
-        ensures { IfOk result (λ t. t ≡ ty_tree form) }
-    {
-        match Rc::new(alloc, TyNode { depth, form }) {
-            Ok(node) => Ok(Ty { node }),
-            Err(_) => Err(NoMemory),
-        }
+        let depth = form.depth();
+        let node = Rc::new(alloc, TyNode { depth, form })?;
+        Ok(Ty { node })
     }
 }
 
@@ -308,26 +290,100 @@ impl Kind {
         ensures same { IfOk result (λ t. t ≡ self.now) }
         ensures class { IsOf kinds self.now }
     {
-        match self.node.clone() {
-            Ok(node) => Ok(Kind { node }),
-            Err(_) => Err(NoMemory),
+        let node = self.node.clone()?;
+        Ok(Kind { node })
+    }
+
+    /// The node of that form.
+    pub(crate) fn of(alloc: Global, form: KindForm) -> Result<Kind, NoMemory>
+        requires { depth (kind_tree form) ≤ 4096 }
+        ensures { IfOk result (λ t. t ≡ kind_tree form) }
+    {
+        let depth = form.depth();
+        let node = Rc::new(alloc, KindNode { depth, form })?;
+        Ok(Kind { node })
+    }
+}
+
+impl TermForm {
+    /// The depth of its node, and for a proof the class of the tree.
+    fn depth(&self) -> u32
+        ensures is { result ≡ depth (term_tree self.now) }
+        ensures class { IsOf terms (term_tree self.now) }
+    {
+        match self {
+            TermForm::Var(_) | TermForm::Name(_) => 0,
+            TermForm::Lam(ty, part) | TermForm::Elam(ty, part) | TermForm::Delta(ty, part) => {
+                ty.node.depth.max(part.node.depth) + 1
+            }
+            TermForm::Xlam(kind, part) => kind.node.depth.max(part.node.depth) + 1,
+            TermForm::App(head, arg) | TermForm::Eapp(head, arg) => {
+                head.node.depth.max(arg.node.depth) + 1
+            }
+            TermForm::Tapp(head, arg) => head.node.depth.max(arg.node.depth) + 1,
+            TermForm::Pair(left, right, ty) => {
+                left.node.depth.max(right.node.depth).max(ty.node.depth) + 1
+            }
+            TermForm::Fst(part) | TermForm::Snd(part) => part.node.depth + 1,
+            TermForm::Beta(side, kept) => {
+                side.known();
+                kept.known();
+                side.depth().max(kept.depth()) + 1
+            }
+            TermForm::Rho(proof, guide, ty, part) => {
+                guide.known();
+                proof
+                    .node
+                    .depth
+                    .max(guide.depth())
+                    .max(ty.node.depth)
+                    .max(part.node.depth)
+                    + 1
+            }
+            TermForm::Phi(proof, part, kept) => {
+                kept.known();
+                proof.node.depth.max(part.node.depth).max(kept.depth()) + 1
+            }
         }
     }
+}
 
-    pub(crate) fn leaf(alloc: Global, form: KindForm) -> Result<Kind, NoMemory>
-        requires { IsNode kinds 4096 0 (kind_tree form) }
-        ensures { IfOk result (λ t. t ≡ kind_tree form) }
+impl TyForm {
+    /// The depth of its node, and for a proof the class of the tree.
+    fn depth(&self) -> u32
+        ensures is { result ≡ depth (ty_tree self.now) }
+        ensures class { IsOf types (ty_tree self.now) }
     {
-        Kind::make(alloc, 0, form)
+        match self {
+            TyForm::Var(_) | TyForm::Name(_) => 0,
+            TyForm::Pi(left, right)
+            | TyForm::All(left, right)
+            | TyForm::Tlam(left, right)
+            | TyForm::On(left, right)
+            | TyForm::Iota(left, right) => left.node.depth.max(right.node.depth) + 1,
+            TyForm::Allt(domain, part) | TyForm::Xtlam(domain, part) => {
+                domain.node.depth.max(part.node.depth) + 1
+            }
+            TyForm::At(head, arg) => head.node.depth.max(arg.node.depth) + 1,
+            TyForm::Eq(left, right) => {
+                left.known();
+                right.known();
+                left.depth().max(right.depth()) + 1
+            }
+        }
     }
+}
 
-    pub(crate) fn make(alloc: Global, depth: u32, form: KindForm) -> Result<Kind, NoMemory>
-        requires { IsNode kinds 4096 depth (kind_tree form) }
-        ensures { IfOk result (λ t. t ≡ kind_tree form) }
+impl KindForm {
+    /// The depth of its node, and for a proof the class of the tree.
+    fn depth(&self) -> u32
+        ensures is { result ≡ depth (kind_tree self.now) }
+        ensures class { IsOf kinds (kind_tree self.now) }
     {
-        match Rc::new(alloc, KindNode { depth, form }) {
-            Ok(node) => Ok(Kind { node }),
-            Err(_) => Err(NoMemory),
+        match self {
+            KindForm::Star => 0,
+            KindForm::Kpi(domain, part) => domain.node.depth.max(part.node.depth) + 1,
+            KindForm::Kpit(domain, part) => domain.node.depth.max(part.node.depth) + 1,
         }
     }
 }

@@ -15,14 +15,14 @@ impl Term {
     pub fn var(alloc: Global, index: u32) -> Result<Term, NoMemory>
         ensures { IfOk result (λ t. t ≡ var index) }
     {
-        Term::leaf(alloc, TermForm::Var(index))
+        Term::of(alloc, TermForm::Var(index))
     }
 
     /// The item of that number.
     pub fn name(alloc: Global, item: u32) -> Result<Term, NoMemory>
         ensures { IfOk result (λ t. t ≡ name item) }
     {
-        Term::leaf(alloc, TermForm::Name(item))
+        Term::of(alloc, TermForm::Name(item))
     }
 
     /// `(lam x ty part)`.
@@ -31,8 +31,7 @@ impl Term {
         requires part_depth { depth part.now < 4096 }
         ensures { IfOk result (λ t. t ≡ lam ty.now part.now) }
     {
-        let depth = ty.depth().max(part.depth()) + 1;
-        Term::make(alloc, depth, TermForm::Lam(ty.share()?, part.share()?))
+        Term::of(alloc, TermForm::Lam(ty.share()?, part.share()?))
     }
 
     /// `(elam x ty part)`.
@@ -41,8 +40,7 @@ impl Term {
         requires part_depth { depth part.now < 4096 }
         ensures { IfOk result (λ t. t ≡ elam ty.now part.now) }
     {
-        let depth = ty.depth().max(part.depth()) + 1;
-        Term::make(alloc, depth, TermForm::Elam(ty.share()?, part.share()?))
+        Term::of(alloc, TermForm::Elam(ty.share()?, part.share()?))
     }
 
     /// `(xlam X kind part)`.
@@ -51,8 +49,7 @@ impl Term {
         requires part_depth { depth part.now < 4096 }
         ensures { IfOk result (λ t. t ≡ xlam kind.now part.now) }
     {
-        let depth = kind.depth().max(part.depth()) + 1;
-        Term::make(alloc, depth, TermForm::Xlam(kind.share()?, part.share()?))
+        Term::of(alloc, TermForm::Xlam(kind.share()?, part.share()?))
     }
 
     /// `(app head arg)`.
@@ -61,8 +58,7 @@ impl Term {
         requires arg_depth { depth arg.now < 4096 }
         ensures { IfOk result (λ t. t ≡ app head.now arg.now) }
     {
-        let depth = head.depth().max(arg.depth()) + 1;
-        Term::make(alloc, depth, TermForm::App(head.share()?, arg.share()?))
+        Term::of(alloc, TermForm::App(head.share()?, arg.share()?))
     }
 
     /// `(eapp head arg)`.
@@ -71,8 +67,7 @@ impl Term {
         requires arg_depth { depth arg.now < 4096 }
         ensures { IfOk result (λ t. t ≡ eapp head.now arg.now) }
     {
-        let depth = head.depth().max(arg.depth()) + 1;
-        Term::make(alloc, depth, TermForm::Eapp(head.share()?, arg.share()?))
+        Term::of(alloc, TermForm::Eapp(head.share()?, arg.share()?))
     }
 
     /// `(tapp head arg)`.
@@ -81,8 +76,7 @@ impl Term {
         requires arg_depth { depth arg.now < 4096 }
         ensures { IfOk result (λ t. t ≡ tapp head.now arg.now) }
     {
-        let depth = head.depth().max(arg.depth()) + 1;
-        Term::make(alloc, depth, TermForm::Tapp(head.share()?, arg.share()?))
+        Term::of(alloc, TermForm::Tapp(head.share()?, arg.share()?))
     }
 
     /// `(pair left right x ty)`.
@@ -92,10 +86,8 @@ impl Term {
         requires ty_depth { depth ty.now < 4096 }
         ensures { IfOk result (λ t. t ≡ pair left.now right.now ty.now) }
     {
-        let depth = left.depth().max(right.depth()).max(ty.depth()) + 1;
-        Term::make(
+        Term::of(
             alloc,
-            depth,
             TermForm::Pair(left.share()?, right.share()?, ty.share()?),
         )
     }
@@ -105,8 +97,7 @@ impl Term {
         requires { depth part.now < 4096 }
         ensures { IfOk result (λ t. t ≡ fst part.now) }
     {
-        let depth = part.depth() + 1;
-        Term::make(alloc, depth, TermForm::Fst(part.share()?))
+        Term::of(alloc, TermForm::Fst(part.share()?))
     }
 
     /// `(snd part)`.
@@ -114,8 +105,7 @@ impl Term {
         requires { depth part.now < 4096 }
         ensures { IfOk result (λ t. t ≡ snd part.now) }
     {
-        let depth = part.depth() + 1;
-        Term::make(alloc, depth, TermForm::Snd(part.share()?))
+        Term::of(alloc, TermForm::Snd(part.share()?))
     }
 
     /// `(beta side kept)`.
@@ -124,8 +114,7 @@ impl Term {
         requires kept_depth { depth kept.now < 4096 }
         ensures { IfOk result (λ t. t ≡ beta side.now kept.now) }
     {
-        let depth = side.depth().max(kept.depth()) + 1;
-        Term::make(alloc, depth, TermForm::Beta(side.share()?, kept.share()?))
+        Term::of(alloc, TermForm::Beta(side.share()?, kept.share()?))
     }
 
     /// `(rho proof x guide ty part)`.
@@ -142,15 +131,8 @@ impl Term {
         requires part_depth { depth part.now < 4096 }
         ensures { IfOk result (λ t. t ≡ rho proof.now guide.now ty.now part.now) }
     {
-        let depth = proof
-            .depth()
-            .max(guide.depth())
-            .max(ty.depth())
-            .max(part.depth())
-            + 1;
-        Term::make(
+        Term::of(
             alloc,
-            depth,
             TermForm::Rho(proof.share()?, guide.share()?, ty.share()?, part.share()?),
         )
     }
@@ -162,10 +144,8 @@ impl Term {
         requires kept_depth { depth kept.now < 4096 }
         ensures { IfOk result (λ t. t ≡ phi proof.now part.now kept.now) }
     {
-        let depth = proof.depth().max(part.depth()).max(kept.depth()) + 1;
-        Term::make(
+        Term::of(
             alloc,
-            depth,
             TermForm::Phi(proof.share()?, part.share()?, kept.share()?),
         )
     }
@@ -176,7 +156,6 @@ impl Term {
         requires proof_depth { depth proof.now < 4096 }
         ensures { IfOk result (λ t. t ≡ delta ty.now proof.now) }
     {
-        let depth = ty.depth().max(proof.depth()) + 1;
-        Term::make(alloc, depth, TermForm::Delta(ty.share()?, proof.share()?))
+        Term::of(alloc, TermForm::Delta(ty.share()?, proof.share()?))
     }
 }

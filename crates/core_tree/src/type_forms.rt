@@ -14,14 +14,14 @@ impl Ty {
     pub fn var(alloc: Global, index: u32) -> Result<Ty, NoMemory>
         ensures { IfOk result (λ t. t ≡ var index) }
     {
-        Ty::leaf(alloc, TyForm::Var(index))
+        Ty::of(alloc, TyForm::Var(index))
     }
 
     /// The item of that number.
     pub fn name(alloc: Global, item: u32) -> Result<Ty, NoMemory>
         ensures { IfOk result (λ t. t ≡ name item) }
     {
-        Ty::leaf(alloc, TyForm::Name(item))
+        Ty::of(alloc, TyForm::Name(item))
     }
 
     /// `(pi x domain part)`.
@@ -30,8 +30,7 @@ impl Ty {
         requires part_depth { depth part.now < 4096 }
         ensures { IfOk result (λ t. t ≡ pi domain.now part.now) }
     {
-        let depth = domain.depth().max(part.depth()) + 1;
-        Ty::make(alloc, depth, TyForm::Pi(domain.share()?, part.share()?))
+        Ty::of(alloc, TyForm::Pi(domain.share()?, part.share()?))
     }
 
     /// `(all x domain part)`.
@@ -40,8 +39,7 @@ impl Ty {
         requires part_depth { depth part.now < 4096 }
         ensures { IfOk result (λ t. t ≡ all domain.now part.now) }
     {
-        let depth = domain.depth().max(part.depth()) + 1;
-        Ty::make(alloc, depth, TyForm::All(domain.share()?, part.share()?))
+        Ty::of(alloc, TyForm::All(domain.share()?, part.share()?))
     }
 
     /// `(allt X domain part)`.
@@ -50,8 +48,7 @@ impl Ty {
         requires part_depth { depth part.now < 4096 }
         ensures { IfOk result (λ t. t ≡ allt domain.now part.now) }
     {
-        let depth = domain.depth().max(part.depth()) + 1;
-        Ty::make(alloc, depth, TyForm::Allt(domain.share()?, part.share()?))
+        Ty::of(alloc, TyForm::Allt(domain.share()?, part.share()?))
     }
 
     /// `(tlam x domain part)`.
@@ -60,8 +57,7 @@ impl Ty {
         requires part_depth { depth part.now < 4096 }
         ensures { IfOk result (λ t. t ≡ tlam domain.now part.now) }
     {
-        let depth = domain.depth().max(part.depth()) + 1;
-        Ty::make(alloc, depth, TyForm::Tlam(domain.share()?, part.share()?))
+        Ty::of(alloc, TyForm::Tlam(domain.share()?, part.share()?))
     }
 
     /// `(xtlam X domain part)`.
@@ -70,8 +66,7 @@ impl Ty {
         requires part_depth { depth part.now < 4096 }
         ensures { IfOk result (λ t. t ≡ xtlam domain.now part.now) }
     {
-        let depth = domain.depth().max(part.depth()) + 1;
-        Ty::make(alloc, depth, TyForm::Xtlam(domain.share()?, part.share()?))
+        Ty::of(alloc, TyForm::Xtlam(domain.share()?, part.share()?))
     }
 
     /// `(at head arg)`.
@@ -80,8 +75,7 @@ impl Ty {
         requires arg_depth { depth arg.now < 4096 }
         ensures { IfOk result (λ t. t ≡ at_ head.now arg.now) }
     {
-        let depth = head.depth().max(arg.depth()) + 1;
-        Ty::make(alloc, depth, TyForm::At(head.share()?, arg.share()?))
+        Ty::of(alloc, TyForm::At(head.share()?, arg.share()?))
     }
 
     /// `(on head arg)`.
@@ -90,8 +84,7 @@ impl Ty {
         requires arg_depth { depth arg.now < 4096 }
         ensures { IfOk result (λ t. t ≡ on head.now arg.now) }
     {
-        let depth = head.depth().max(arg.depth()) + 1;
-        Ty::make(alloc, depth, TyForm::On(head.share()?, arg.share()?))
+        Ty::of(alloc, TyForm::On(head.share()?, arg.share()?))
     }
 
     /// `(iota x left right)`.
@@ -100,8 +93,7 @@ impl Ty {
         requires right_depth { depth right.now < 4096 }
         ensures { IfOk result (λ t. t ≡ iota left.now right.now) }
     {
-        let depth = left.depth().max(right.depth()) + 1;
-        Ty::make(alloc, depth, TyForm::Iota(left.share()?, right.share()?))
+        Ty::of(alloc, TyForm::Iota(left.share()?, right.share()?))
     }
 
     /// `(eq left right)`.
@@ -110,8 +102,7 @@ impl Ty {
         requires right_depth { depth right.now < 4096 }
         ensures { IfOk result (λ t. t ≡ eq left.now right.now) }
     {
-        let depth = left.depth().max(right.depth()) + 1;
-        Ty::make(alloc, depth, TyForm::Eq(left.share()?, right.share()?))
+        Ty::of(alloc, TyForm::Eq(left.share()?, right.share()?))
     }
 }
 
@@ -120,7 +111,7 @@ impl Kind {
     pub fn star(alloc: Global) -> Result<Kind, NoMemory>
         ensures { IfOk result (λ t. t ≡ star) }
     {
-        Kind::leaf(alloc, KindForm::Star)
+        Kind::of(alloc, KindForm::Star)
     }
 
     /// `(kpi x domain part)`.
@@ -129,8 +120,7 @@ impl Kind {
         requires part_depth { depth part.now < 4096 }
         ensures { IfOk result (λ t. t ≡ kpi domain.now part.now) }
     {
-        let depth = domain.depth().max(part.depth()) + 1;
-        Kind::make(alloc, depth, KindForm::Kpi(domain.share()?, part.share()?))
+        Kind::of(alloc, KindForm::Kpi(domain.share()?, part.share()?))
     }
 
     /// `(kpit X domain part)`.
@@ -139,7 +129,6 @@ impl Kind {
         requires part_depth { depth part.now < 4096 }
         ensures { IfOk result (λ t. t ≡ kpit domain.now part.now) }
     {
-        let depth = domain.depth().max(part.depth()) + 1;
-        Kind::make(alloc, depth, KindForm::Kpit(domain.share()?, part.share()?))
+        Kind::of(alloc, KindForm::Kpit(domain.share()?, part.share()?))
     }
 }
