@@ -1,5 +1,7 @@
 //! Erasures of terms, types and kinds.
 ghost use Rattle.std.specs.Prelude.{◌≡◌, ◌≤◌, IfOk};
+ghost use Rattle.cdle_model.specs.Trees.{var};
+ghost use Rattle.cdle_model.specs.Forms.{fn};
 ghost use Rattle.cdle_model.specs.Depth.{depth};
 ghost use Rattle.cdle_model.specs.Erasure.{HasErasure, erased};
 
@@ -24,11 +26,7 @@ impl Term {
                 let part = part.erase(alloc)?;
                 Pure::of(alloc, PureForm::Function(part))
             }
-            TermForm::Elam(_, part) => {
-                let part = part.erase(alloc)?;
-                part.lower(alloc)
-            }
-            TermForm::Xlam(_, part) => {
+            TermForm::Elam(_, part) | TermForm::Xlam(_, part) => {
                 let part = part.erase(alloc)?;
                 part.lower(alloc)
             }
@@ -37,20 +35,24 @@ impl Term {
                 let arg = arg.erase(alloc)?;
                 Pure::of(alloc, PureForm::Ap(head, arg))
             }
-            TermForm::Eapp(head, _) => head.erase(alloc),
-            TermForm::Tapp(head, _) => head.erase(alloc),
-            TermForm::Pair(left, _, _) => left.erase(alloc),
-            TermForm::Fst(part) => part.erase(alloc),
-            TermForm::Snd(part) => part.erase(alloc),
-            TermForm::Beta(_, kept) => kept.share(),
-            TermForm::Rho(_, _, _, part) => part.erase(alloc),
-            TermForm::Phi(_, _, kept) => kept.share(),
-            TermForm::Delta(_, _) => {
-                let zero = Pure::var(alloc, 0)?;
-                Pure::of(alloc, PureForm::Function(zero))
-            }
+            TermForm::Eapp(part, _)
+            | TermForm::Tapp(part, _)
+            | TermForm::Pair(part, _, _)
+            | TermForm::Fst(part)
+            | TermForm::Snd(part)
+            | TermForm::Rho(_, _, _, part) => part.erase(alloc),
+            TermForm::Beta(_, kept) | TermForm::Phi(_, _, kept) => kept.share(),
+            TermForm::Delta(_, _) => identity(alloc),
         }
     }
+}
+
+/// The function that gives its argument.
+fn identity(alloc: Global) -> Result<Pure, NoMemory>
+    ensures { IfOk result (λ t. t ≡ fn (var 0)) }
+{
+    let variable = Pure::var(alloc, 0)?;
+    Pure::of(alloc, PureForm::Function(variable))
 }
 
 impl Ty {

@@ -143,6 +143,15 @@ impl Guide {
         let _ = &self.node;
     }
 
+    /// The depth, and for a proof the class of the tree.
+    pub(crate) fn level(&self) -> u32
+        ensures is { result ≡ depth self.now }
+        ensures bounded { result ≤ 65535 }
+        ensures class { IsOf guides self.now }
+    {
+        self.node.depth
+    }
+
     /// One more than the largest free variable, and 0 of a closed tree.
     pub(crate) fn free(&self) -> u64
         ensures { result ≡ free_bound self.now }
@@ -172,7 +181,6 @@ impl Guide {
         let depth = form.depth();
         let free = form.free();
         let nodes = count_open(free, form.nodes());
-        refuse_deep(depth)?;
         let node = Rc::new(
             alloc,
             GuideNode {
@@ -182,7 +190,9 @@ impl Guide {
                 form,
             },
         )?;
-        Ok(Guide { node })
+        let made = Guide { node };
+        refuse_deep(depth)?;
+        Ok(made)
     }
 }
 
@@ -208,6 +218,15 @@ impl GuideKind {
         ensures { IsOf guide_kinds self.now }
     {
         let _ = &self.node;
+    }
+
+    /// The depth, and for a proof the class of the tree.
+    fn level(&self) -> u32
+        ensures is { result ≡ depth self.now }
+        ensures bounded { result ≤ 65535 }
+        ensures class { IsOf guide_kinds self.now }
+    {
+        self.node.depth
     }
 
     /// One more than the largest free variable, and 0 of a closed tree.
@@ -239,7 +258,6 @@ impl GuideKind {
         let depth = form.depth();
         let free = form.free();
         let nodes = count_open(free, form.nodes());
-        refuse_deep(depth)?;
         let node = Rc::new(
             alloc,
             GuideKindNode {
@@ -249,7 +267,9 @@ impl GuideKind {
                 form,
             },
         )?;
-        Ok(GuideKind { node })
+        let made = GuideKind { node };
+        refuse_deep(depth)?;
+        Ok(made)
     }
 }
 
@@ -264,18 +284,11 @@ impl GuideForm {
             GuideForm::Pi(left, right)
             | GuideForm::All(left, right)
             | GuideForm::On(left, right)
-            | GuideForm::Iota(left, right) => left.node.depth.max(right.node.depth) + 1,
-            GuideForm::Allt(domain, part) => domain.node.depth.max(part.node.depth) + 1,
-            GuideForm::Tlam(part) | GuideForm::Xtlam(part) => part.node.depth + 1,
-            GuideForm::At(head, arg) => {
-                arg.known();
-                head.node.depth.max(arg.depth()) + 1
-            }
-            GuideForm::Eq(left, right) => {
-                left.known();
-                right.known();
-                left.depth().max(right.depth()) + 1
-            }
+            | GuideForm::Iota(left, right) => left.level().max(right.level()) + 1,
+            GuideForm::Allt(domain, part) => domain.level().max(part.level()) + 1,
+            GuideForm::Tlam(part) | GuideForm::Xtlam(part) => part.level() + 1,
+            GuideForm::At(head, arg) => head.level().max(arg.level()) + 1,
+            GuideForm::Eq(left, right) => left.level().max(right.level()) + 1,
         }
     }
 
@@ -321,8 +334,8 @@ impl GuideKindForm {
     {
         match self {
             GuideKindForm::Star => 0,
-            GuideKindForm::Kpi(domain, part) => domain.node.depth.max(part.node.depth) + 1,
-            GuideKindForm::Kpit(domain, part) => domain.node.depth.max(part.node.depth) + 1,
+            GuideKindForm::Kpi(domain, part) => domain.level().max(part.level()) + 1,
+            GuideKindForm::Kpit(domain, part) => domain.level().max(part.level()) + 1,
         }
     }
 

@@ -6,6 +6,7 @@ ghost use Rattle.cdle_model.specs.Depth.{depth};
 
 use crate::guide::{Guide, GuideForm, GuideKind, GuideKindForm};
 use crate::pure::Pure;
+use crate::sharing::share_both;
 use cdle_model::NoMemory;
 use std::alloc::Global;
 
@@ -30,7 +31,8 @@ impl Guide {
         requires part_depth { depth part.now < 65535 }
         ensures { IfOk result (λ t. t ≡ pi domain.now part.now) }
     {
-        Guide::of(alloc, GuideForm::Pi(domain.share()?, part.share()?))
+        let (domain, part) = share_both(domain, part)?;
+        Guide::of(alloc, GuideForm::Pi(domain, part))
     }
 
     /// `(all x domain part)`.
@@ -39,7 +41,8 @@ impl Guide {
         requires part_depth { depth part.now < 65535 }
         ensures { IfOk result (λ t. t ≡ all domain.now part.now) }
     {
-        Guide::of(alloc, GuideForm::All(domain.share()?, part.share()?))
+        let (domain, part) = share_both(domain, part)?;
+        Guide::of(alloc, GuideForm::All(domain, part))
     }
 
     /// `(allt X domain part)`.
@@ -48,7 +51,8 @@ impl Guide {
         requires part_depth { depth part.now < 65535 }
         ensures { IfOk result (λ t. t ≡ allt domain.now part.now) }
     {
-        Guide::of(alloc, GuideForm::Allt(domain.share()?, part.share()?))
+        let (domain, part) = share_both(domain, part)?;
+        Guide::of(alloc, GuideForm::Allt(domain, part))
     }
 
     /// `(tlam x part)`.
@@ -73,7 +77,8 @@ impl Guide {
         requires arg_depth { depth arg.now < 65535 }
         ensures { IfOk result (λ t. t ≡ at_ head.now arg.now) }
     {
-        Guide::of(alloc, GuideForm::At(head.share()?, arg.share()?))
+        let (head, arg) = share_both(head, arg)?;
+        Guide::of(alloc, GuideForm::At(head, arg))
     }
 
     /// `(on head arg)`.
@@ -82,7 +87,8 @@ impl Guide {
         requires arg_depth { depth arg.now < 65535 }
         ensures { IfOk result (λ t. t ≡ on head.now arg.now) }
     {
-        Guide::of(alloc, GuideForm::On(head.share()?, arg.share()?))
+        let (head, arg) = share_both(head, arg)?;
+        Guide::of(alloc, GuideForm::On(head, arg))
     }
 
     /// `(iota x left right)`.
@@ -91,7 +97,8 @@ impl Guide {
         requires right_depth { depth right.now < 65535 }
         ensures { IfOk result (λ t. t ≡ iota left.now right.now) }
     {
-        Guide::of(alloc, GuideForm::Iota(left.share()?, right.share()?))
+        let (left, right) = share_both(left, right)?;
+        Guide::of(alloc, GuideForm::Iota(left, right))
     }
 
     /// `(eq left right)`.
@@ -100,7 +107,8 @@ impl Guide {
         requires right_depth { depth right.now < 65535 }
         ensures { IfOk result (λ t. t ≡ eq left.now right.now) }
     {
-        Guide::of(alloc, GuideForm::Eq(left.share()?, right.share()?))
+        let (left, right) = share_both(left, right)?;
+        Guide::of(alloc, GuideForm::Eq(left, right))
     }
 }
 
@@ -118,7 +126,8 @@ impl GuideKind {
         requires part_depth { depth part.now < 65535 }
         ensures { IfOk result (λ t. t ≡ kpi domain.now part.now) }
     {
-        GuideKind::of(alloc, GuideKindForm::Kpi(domain.share()?, part.share()?))
+        let (domain, part) = share_both(domain, part)?;
+        GuideKind::of(alloc, GuideKindForm::Kpi(domain, part))
     }
 
     /// `(kpit X domain part)`.
@@ -127,6 +136,7 @@ impl GuideKind {
         requires part_depth { depth part.now < 65535 }
         ensures { IfOk result (λ t. t ≡ kpit domain.now part.now) }
     {
-        GuideKind::of(alloc, GuideKindForm::Kpit(domain.share()?, part.share()?))
+        let (domain, part) = share_both(domain, part)?;
+        GuideKind::of(alloc, GuideKindForm::Kpit(domain, part))
     }
 }

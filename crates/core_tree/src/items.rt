@@ -3,6 +3,7 @@ ghost use Rattle.std.specs.Prelude.{◌≡◌, length, slice_get, MatchOption, N
 ghost use Rattle.cdle_model.specs.Forms.{name_of};
 ghost use Rattle.core_tree.specs.Items.{all_written, written};
 
+use crate::sharing::share_both;
 use crate::term::{Kind, Term, Ty};
 use cdle_model::{NoMemory, Text};
 use std::alloc::Global;
@@ -35,13 +36,11 @@ impl CoreItem {
         };
         match self {
             CoreItem::Def { ty, body, .. } => {
-                let ty = ty.share()?;
-                let body = body.share()?;
+                let (ty, body) = share_both(ty, body)?;
                 Ok(CoreItem::Def { name, ty, body })
             }
             CoreItem::TypeDef { kind, body, .. } => {
-                let kind = kind.share()?;
-                let body = body.share()?;
+                let (kind, body) = share_both(kind, body)?;
                 Ok(CoreItem::TypeDef { name, kind, body })
             }
         }

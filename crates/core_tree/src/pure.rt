@@ -7,7 +7,7 @@ ghost use Rattle.cdle_model.specs.Classes.{pure_terms, IsOf};
 ghost use Rattle.core_tree.specs.Forms.{pure_tree};
 ghost use Rattle.core_tree.specs.Nodes.{IsOpenNode};
 
-use crate::sharing::count_open;
+use crate::sharing::{count_open, share_both};
 use cdle_model::NoMemory;
 use std::alloc::{AllocError, Global};
 use std::marker::Model;
@@ -92,7 +92,8 @@ impl Pure {
         requires arg_depth { depth arg.now < 65535 }
         ensures { IfOk result (λ t. t ≡ ap head.now arg.now) }
     {
-        Pure::of(alloc, PureForm::Ap(head.share()?, arg.share()?))
+        let (head, arg) = share_both(head, arg)?;
+        Pure::of(alloc, PureForm::Ap(head, arg))
     }
 
     /// The form, with its parts.
@@ -116,6 +117,15 @@ impl Pure {
         ensures { IsOf pure_terms self.now }
     {
         let _ = &self.node;
+    }
+
+    /// The depth, and for a proof the class of the tree.
+    pub(crate) fn level(&self) -> u32
+        ensures is { result ≡ depth self.now }
+        ensures bounded { result ≤ 65535 }
+        ensures class { IsOf pure_terms self.now }
+    {
+        self.node.depth
     }
 
     /// One more than the largest free variable, and 0 of a closed tree.
@@ -168,8 +178,8 @@ impl PureForm {
     {
         match self {
             PureForm::Var(_) | PureForm::Name(_) => 0,
-            PureForm::Function(part) => part.node.depth + 1,
-            PureForm::Ap(head, arg) => head.node.depth.max(arg.node.depth) + 1,
+            PureForm::Function(part) => part.level() + 1,
+            PureForm::Ap(head, arg) => head.level().max(arg.level()) + 1,
         }
     }
 

@@ -1,5 +1,16 @@
-//! How much a change of a tree would build.
+//! Sharing nodes, and how much a change of a tree would build.
+ghost use Rattle.std.specs.Prelude.{IfOk};
+
 use cdle_model::NoMemory;
+
+/// Both nodes once more.
+pub(crate) fn share_both<A: Clone, B: Clone>(left: &A, right: &B) -> Result<(A, B), NoMemory>
+    ensures { IfOk result (λ both. A.is_clone left.now both.0 × B.is_clone right.now both.1) }
+{
+    let left = left.clone()?;
+    let right = right.clone()?;
+    Ok((left, right))
+}
 
 /// The most nodes that one shift or one put builds. More would not fit in memory, and to try would take minutes.
 const MOST_NODES: u64 = 4_294_967_296;

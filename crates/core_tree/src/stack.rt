@@ -2,13 +2,14 @@
 //! docs/PERFORMANCE.md tells what was measured.
 use cdle_model::NoMemory;
 
-/// The deepest guide that is built; dropping one goes down by one call for each level.
+/// The deepest guide that is given; dropping one goes down by one call for each level. One that is deeper by a level is built, and dropped
+/// at once.
 const DEEPEST: u32 = 32_768;
 
 /// The deepest guide that is shifted.
 const DEEPEST_SHIFTED: u32 = 16_384;
 
-/// Refuses to build a guide or a guide kind that could not be dropped.
+/// Refuses a guide or a guide kind that could not be dropped if it were part of a deeper one.
 pub(crate) fn refuse_deep(depth: u32) -> Result<(), NoMemory> {
     if depth > DEEPEST {
         Err(NoMemory)

@@ -197,6 +197,15 @@ impl Term {
         let _ = &self.node;
     }
 
+    /// The depth, and for a proof the class of the tree.
+    fn level(&self) -> u32
+        ensures is { result ≡ depth self.now }
+        ensures bounded { result ≤ 4096 }
+        ensures class { IsOf terms self.now }
+    {
+        self.node.depth
+    }
+
     /// The same node once more.
     pub(crate) fn share(&self) -> Result<Term, NoMemory>
         ensures same { IfOk result (λ t. t ≡ self.now) }
@@ -239,6 +248,15 @@ impl Ty {
         ensures { IsOf types self.now }
     {
         let _ = &self.node;
+    }
+
+    /// The depth, and for a proof the class of the tree.
+    fn level(&self) -> u32
+        ensures is { result ≡ depth self.now }
+        ensures bounded { result ≤ 4096 }
+        ensures class { IsOf types self.now }
+    {
+        self.node.depth
     }
 
     /// The same node once more.
@@ -285,6 +303,15 @@ impl Kind {
         let _ = &self.node;
     }
 
+    /// The depth, and for a proof the class of the tree.
+    fn level(&self) -> u32
+        ensures is { result ≡ depth self.now }
+        ensures bounded { result ≤ 4096 }
+        ensures class { IsOf kinds self.now }
+    {
+        self.node.depth
+    }
+
     /// The same node once more.
     pub(crate) fn share(&self) -> Result<Kind, NoMemory>
         ensures same { IfOk result (λ t. t ≡ self.now) }
@@ -314,36 +341,26 @@ impl TermForm {
         match self {
             TermForm::Var(_) | TermForm::Name(_) => 0,
             TermForm::Lam(ty, part) | TermForm::Elam(ty, part) | TermForm::Delta(ty, part) => {
-                ty.node.depth.max(part.node.depth) + 1
+                ty.level().max(part.level()) + 1
             }
-            TermForm::Xlam(kind, part) => kind.node.depth.max(part.node.depth) + 1,
+            TermForm::Xlam(kind, part) => kind.level().max(part.level()) + 1,
             TermForm::App(head, arg) | TermForm::Eapp(head, arg) => {
-                head.node.depth.max(arg.node.depth) + 1
+                head.level().max(arg.level()) + 1
             }
-            TermForm::Tapp(head, arg) => head.node.depth.max(arg.node.depth) + 1,
+            TermForm::Tapp(head, arg) => head.level().max(arg.level()) + 1,
             TermForm::Pair(left, right, ty) => {
-                left.node.depth.max(right.node.depth).max(ty.node.depth) + 1
+                left.level().max(right.level()).max(ty.level()) + 1
             }
-            TermForm::Fst(part) | TermForm::Snd(part) => part.node.depth + 1,
-            TermForm::Beta(side, kept) => {
-                side.known();
-                kept.known();
-                side.depth().max(kept.depth()) + 1
-            }
-            TermForm::Rho(proof, guide, ty, part) => {
-                guide.known();
-                proof
-                    .node
-                    .depth
-                    .max(guide.depth())
-                    .max(ty.node.depth)
-                    .max(part.node.depth)
-                    + 1
-            }
-            TermForm::Phi(proof, part, kept) => {
-                kept.known();
-                proof.node.depth.max(part.node.depth).max(kept.depth()) + 1
-            }
+            TermForm::Fst(part) | TermForm::Snd(part) => part.level() + 1,
+            TermForm::Beta(side, kept) => side.level().max(kept.level()) + 1,
+            TermForm::Rho(proof, guide, ty, part) => proof
+                .level()
+                .max(guide.level())
+                .max(ty.level())
+                .max(part.level())
+                + 1,
+            TermForm::Phi(proof, part, kept) => proof.level().max(part.level()).max(kept.level())
+                + 1,
         }
     }
 }
@@ -360,16 +377,12 @@ impl TyForm {
             | TyForm::All(left, right)
             | TyForm::Tlam(left, right)
             | TyForm::On(left, right)
-            | TyForm::Iota(left, right) => left.node.depth.max(right.node.depth) + 1,
+            | TyForm::Iota(left, right) => left.level().max(right.level()) + 1,
             TyForm::Allt(domain, part) | TyForm::Xtlam(domain, part) => {
-                domain.node.depth.max(part.node.depth) + 1
+                domain.level().max(part.level()) + 1
             }
-            TyForm::At(head, arg) => head.node.depth.max(arg.node.depth) + 1,
-            TyForm::Eq(left, right) => {
-                left.known();
-                right.known();
-                left.depth().max(right.depth()) + 1
-            }
+            TyForm::At(head, arg) => head.level().max(arg.level()) + 1,
+            TyForm::Eq(left, right) => left.level().max(right.level()) + 1,
         }
     }
 }
@@ -382,8 +395,8 @@ impl KindForm {
     {
         match self {
             KindForm::Star => 0,
-            KindForm::Kpi(domain, part) => domain.node.depth.max(part.node.depth) + 1,
-            KindForm::Kpit(domain, part) => domain.node.depth.max(part.node.depth) + 1,
+            KindForm::Kpi(domain, part) => domain.level().max(part.level()) + 1,
+            KindForm::Kpit(domain, part) => domain.level().max(part.level()) + 1,
         }
     }
 }

@@ -6,6 +6,7 @@ ghost use Rattle.cdle_model.specs.Depth.{depth};
 
 use crate::guide::Guide;
 use crate::pure::Pure;
+use crate::sharing::share_both;
 use crate::term::{Kind, Term, TermForm, Ty};
 use cdle_model::NoMemory;
 use std::alloc::Global;
@@ -31,7 +32,8 @@ impl Term {
         requires part_depth { depth part.now < 4096 }
         ensures { IfOk result (λ t. t ≡ lam ty.now part.now) }
     {
-        Term::of(alloc, TermForm::Lam(ty.share()?, part.share()?))
+        let (ty, part) = share_both(ty, part)?;
+        Term::of(alloc, TermForm::Lam(ty, part))
     }
 
     /// `(elam x ty part)`.
@@ -40,7 +42,8 @@ impl Term {
         requires part_depth { depth part.now < 4096 }
         ensures { IfOk result (λ t. t ≡ elam ty.now part.now) }
     {
-        Term::of(alloc, TermForm::Elam(ty.share()?, part.share()?))
+        let (ty, part) = share_both(ty, part)?;
+        Term::of(alloc, TermForm::Elam(ty, part))
     }
 
     /// `(xlam X kind part)`.
@@ -49,7 +52,8 @@ impl Term {
         requires part_depth { depth part.now < 4096 }
         ensures { IfOk result (λ t. t ≡ xlam kind.now part.now) }
     {
-        Term::of(alloc, TermForm::Xlam(kind.share()?, part.share()?))
+        let (kind, part) = share_both(kind, part)?;
+        Term::of(alloc, TermForm::Xlam(kind, part))
     }
 
     /// `(app head arg)`.
@@ -58,7 +62,8 @@ impl Term {
         requires arg_depth { depth arg.now < 4096 }
         ensures { IfOk result (λ t. t ≡ app head.now arg.now) }
     {
-        Term::of(alloc, TermForm::App(head.share()?, arg.share()?))
+        let (head, arg) = share_both(head, arg)?;
+        Term::of(alloc, TermForm::App(head, arg))
     }
 
     /// `(eapp head arg)`.
@@ -67,7 +72,8 @@ impl Term {
         requires arg_depth { depth arg.now < 4096 }
         ensures { IfOk result (λ t. t ≡ eapp head.now arg.now) }
     {
-        Term::of(alloc, TermForm::Eapp(head.share()?, arg.share()?))
+        let (head, arg) = share_both(head, arg)?;
+        Term::of(alloc, TermForm::Eapp(head, arg))
     }
 
     /// `(tapp head arg)`.
@@ -76,7 +82,8 @@ impl Term {
         requires arg_depth { depth arg.now < 4096 }
         ensures { IfOk result (λ t. t ≡ tapp head.now arg.now) }
     {
-        Term::of(alloc, TermForm::Tapp(head.share()?, arg.share()?))
+        let (head, arg) = share_both(head, arg)?;
+        Term::of(alloc, TermForm::Tapp(head, arg))
     }
 
     /// `(pair left right x ty)`.
@@ -86,10 +93,8 @@ impl Term {
         requires ty_depth { depth ty.now < 4096 }
         ensures { IfOk result (λ t. t ≡ pair left.now right.now ty.now) }
     {
-        Term::of(
-            alloc,
-            TermForm::Pair(left.share()?, right.share()?, ty.share()?),
-        )
+        let (left, right) = share_both(left, right)?;
+        Term::of(alloc, TermForm::Pair(left, right, ty.share()?))
     }
 
     /// `(fst part)`.
@@ -114,7 +119,8 @@ impl Term {
         requires kept_depth { depth kept.now < 4096 }
         ensures { IfOk result (λ t. t ≡ beta side.now kept.now) }
     {
-        Term::of(alloc, TermForm::Beta(side.share()?, kept.share()?))
+        let (side, kept) = share_both(side, kept)?;
+        Term::of(alloc, TermForm::Beta(side, kept))
     }
 
     /// `(rho proof x guide ty part)`.
@@ -131,10 +137,9 @@ impl Term {
         requires part_depth { depth part.now < 4096 }
         ensures { IfOk result (λ t. t ≡ rho proof.now guide.now ty.now part.now) }
     {
-        Term::of(
-            alloc,
-            TermForm::Rho(proof.share()?, guide.share()?, ty.share()?, part.share()?),
-        )
+        let (proof, guide) = share_both(proof, guide)?;
+        let (ty, part) = share_both(ty, part)?;
+        Term::of(alloc, TermForm::Rho(proof, guide, ty, part))
     }
 
     /// `(phi proof part kept)`.
@@ -144,10 +149,8 @@ impl Term {
         requires kept_depth { depth kept.now < 4096 }
         ensures { IfOk result (λ t. t ≡ phi proof.now part.now kept.now) }
     {
-        Term::of(
-            alloc,
-            TermForm::Phi(proof.share()?, part.share()?, kept.share()?),
-        )
+        let (proof, part) = share_both(proof, part)?;
+        Term::of(alloc, TermForm::Phi(proof, part, kept.share()?))
     }
 
     /// `(delta ty proof)`.
@@ -156,6 +159,7 @@ impl Term {
         requires proof_depth { depth proof.now < 4096 }
         ensures { IfOk result (λ t. t ≡ delta ty.now proof.now) }
     {
-        Term::of(alloc, TermForm::Delta(ty.share()?, proof.share()?))
+        let (ty, proof) = share_both(ty, proof)?;
+        Term::of(alloc, TermForm::Delta(ty, proof))
     }
 }

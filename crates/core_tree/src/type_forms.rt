@@ -5,6 +5,7 @@ ghost use Rattle.cdle_model.specs.Forms.{all, allt, at_, eq, iota, kpi, kpit, on
 ghost use Rattle.cdle_model.specs.Depth.{depth};
 
 use crate::pure::Pure;
+use crate::sharing::share_both;
 use crate::term::{Kind, KindForm, Term, Ty, TyForm};
 use cdle_model::NoMemory;
 use std::alloc::Global;
@@ -30,7 +31,8 @@ impl Ty {
         requires part_depth { depth part.now < 4096 }
         ensures { IfOk result (λ t. t ≡ pi domain.now part.now) }
     {
-        Ty::of(alloc, TyForm::Pi(domain.share()?, part.share()?))
+        let (domain, part) = share_both(domain, part)?;
+        Ty::of(alloc, TyForm::Pi(domain, part))
     }
 
     /// `(all x domain part)`.
@@ -39,7 +41,8 @@ impl Ty {
         requires part_depth { depth part.now < 4096 }
         ensures { IfOk result (λ t. t ≡ all domain.now part.now) }
     {
-        Ty::of(alloc, TyForm::All(domain.share()?, part.share()?))
+        let (domain, part) = share_both(domain, part)?;
+        Ty::of(alloc, TyForm::All(domain, part))
     }
 
     /// `(allt X domain part)`.
@@ -48,7 +51,8 @@ impl Ty {
         requires part_depth { depth part.now < 4096 }
         ensures { IfOk result (λ t. t ≡ allt domain.now part.now) }
     {
-        Ty::of(alloc, TyForm::Allt(domain.share()?, part.share()?))
+        let (domain, part) = share_both(domain, part)?;
+        Ty::of(alloc, TyForm::Allt(domain, part))
     }
 
     /// `(tlam x domain part)`.
@@ -57,7 +61,8 @@ impl Ty {
         requires part_depth { depth part.now < 4096 }
         ensures { IfOk result (λ t. t ≡ tlam domain.now part.now) }
     {
-        Ty::of(alloc, TyForm::Tlam(domain.share()?, part.share()?))
+        let (domain, part) = share_both(domain, part)?;
+        Ty::of(alloc, TyForm::Tlam(domain, part))
     }
 
     /// `(xtlam X domain part)`.
@@ -66,7 +71,8 @@ impl Ty {
         requires part_depth { depth part.now < 4096 }
         ensures { IfOk result (λ t. t ≡ xtlam domain.now part.now) }
     {
-        Ty::of(alloc, TyForm::Xtlam(domain.share()?, part.share()?))
+        let (domain, part) = share_both(domain, part)?;
+        Ty::of(alloc, TyForm::Xtlam(domain, part))
     }
 
     /// `(at head arg)`.
@@ -75,7 +81,8 @@ impl Ty {
         requires arg_depth { depth arg.now < 4096 }
         ensures { IfOk result (λ t. t ≡ at_ head.now arg.now) }
     {
-        Ty::of(alloc, TyForm::At(head.share()?, arg.share()?))
+        let (head, arg) = share_both(head, arg)?;
+        Ty::of(alloc, TyForm::At(head, arg))
     }
 
     /// `(on head arg)`.
@@ -84,7 +91,8 @@ impl Ty {
         requires arg_depth { depth arg.now < 4096 }
         ensures { IfOk result (λ t. t ≡ on head.now arg.now) }
     {
-        Ty::of(alloc, TyForm::On(head.share()?, arg.share()?))
+        let (head, arg) = share_both(head, arg)?;
+        Ty::of(alloc, TyForm::On(head, arg))
     }
 
     /// `(iota x left right)`.
@@ -93,7 +101,8 @@ impl Ty {
         requires right_depth { depth right.now < 4096 }
         ensures { IfOk result (λ t. t ≡ iota left.now right.now) }
     {
-        Ty::of(alloc, TyForm::Iota(left.share()?, right.share()?))
+        let (left, right) = share_both(left, right)?;
+        Ty::of(alloc, TyForm::Iota(left, right))
     }
 
     /// `(eq left right)`.
@@ -102,7 +111,8 @@ impl Ty {
         requires right_depth { depth right.now < 4096 }
         ensures { IfOk result (λ t. t ≡ eq left.now right.now) }
     {
-        Ty::of(alloc, TyForm::Eq(left.share()?, right.share()?))
+        let (left, right) = share_both(left, right)?;
+        Ty::of(alloc, TyForm::Eq(left, right))
     }
 }
 
@@ -120,7 +130,8 @@ impl Kind {
         requires part_depth { depth part.now < 4096 }
         ensures { IfOk result (λ t. t ≡ kpi domain.now part.now) }
     {
-        Kind::of(alloc, KindForm::Kpi(domain.share()?, part.share()?))
+        let (domain, part) = share_both(domain, part)?;
+        Kind::of(alloc, KindForm::Kpi(domain, part))
     }
 
     /// `(kpit X domain part)`.
@@ -129,6 +140,7 @@ impl Kind {
         requires part_depth { depth part.now < 4096 }
         ensures { IfOk result (λ t. t ≡ kpit domain.now part.now) }
     {
-        Kind::of(alloc, KindForm::Kpit(domain.share()?, part.share()?))
+        let (domain, part) = share_both(domain, part)?;
+        Kind::of(alloc, KindForm::Kpit(domain, part))
     }
 }
