@@ -7,7 +7,7 @@ ghost use Rattle.cdle_model.specs.Classes.{pure_terms, IsOf};
 ghost use Rattle.core_tree.specs.Forms.{pure_tree};
 ghost use Rattle.core_tree.specs.Nodes.{IsOpenNode};
 
-use crate::sharing::{count_open, share_both};
+use crate::sharing::{MOST_NODES, count_open, share_both};
 use cdle_model::NoMemory;
 use std::alloc::{AllocError, Global};
 use std::marker::Model;
@@ -138,6 +138,12 @@ impl Pure {
     /// How many nodes of the tree have a free variable, or the counter's last value.
     pub(crate) fn nodes(&self) -> u64 {
         self.node.nodes
+    }
+
+    /// Whether a change of the free variables may build more nodes than a memory holds. No clause speaks of it: it is for a caller that
+    /// answers want of memory at once.
+    pub fn is_too_large(&self) -> bool {
+        self.node.nodes > MOST_NODES
     }
 
     /// The same node once more.

@@ -13,7 +13,7 @@ pub(crate) fn share_both<A: Clone, B: Clone>(left: &A, right: &B) -> Result<(A, 
 }
 
 /// The most nodes that one shift or one put builds. More would not fit in memory, and to try would take minutes.
-const MOST_NODES: u64 = 4_294_967_296;
+pub(crate) const MOST_NODES: u64 = 4_294_967_296;
 
 /// The number of nodes of a tree that have a free variable, or the counter's last value, where `parts` is the sum over its parts.
 /// The other nodes are never built anew.

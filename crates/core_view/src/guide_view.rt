@@ -1,5 +1,5 @@
 //! Erased types and kinds, read on the nodes of written types and kinds or on their own.
-ghost use Rattle.std.specs.Prelude.{◌≡◌, ◌≤◌, IfOk};
+ghost use Rattle.std.specs.Prelude.{◌≡◌, ◌≤◌, IfOk, IfSome};
 ghost use Rattle.cdle_model.specs.Depth.{depth};
 ghost use Rattle.cdle_model.specs.Classes.{IsOf, UsedAs, guide_kinds, guides};
 ghost use Rattle.cdle_model.specs.Erasure.{HasErasure, erased};
@@ -158,6 +158,16 @@ impl GuideView {
         ensures bounded { depth self.now ≤ 65535 }
     {
         let _ = &self.node;
+    }
+
+    /// The erased type itself, where it is read at its own node. It takes no memory.
+    pub fn own(&self) -> Option<&Guide>
+        ensures { IfSome result (λ t. t.now ≡ self.now) }
+    {
+        match &self.node {
+            GuideNode::Built(guide) => Some(guide),
+            GuideNode::Written(_) => None,
+        }
     }
 
     /// The same tree once more, sharing its node.

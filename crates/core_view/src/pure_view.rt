@@ -1,5 +1,5 @@
 //! Pure terms, read on the nodes of written terms or on their own.
-ghost use Rattle.std.specs.Prelude.{◌≡◌, ◌≤◌, [], IfOk};
+ghost use Rattle.std.specs.Prelude.{◌≡◌, ◌≤◌, [], IfOk, IfSome};
 ghost use Rattle.cdle_model.specs.Depth.{depth};
 ghost use Rattle.cdle_model.specs.Classes.{IsOf, UsedAs, pure_terms};
 ghost use Rattle.cdle_model.specs.Erasure.{HasErasure, erased};
@@ -137,6 +137,16 @@ impl PureView {
         let _ = &self.node;
     }
 
+    /// The pure term itself, where it is read at its own node with its own numbering. It takes no memory.
+    pub fn own(&self) -> Option<&Pure>
+        ensures { IfSome result (λ t. t.now ≡ self.now) }
+    {
+        match &self.node {
+            PureNode::Built(term) if self.passed.is_none() => Some(term),
+            _ => None,
+        }
+    }
+
     /// The same tree once more, sharing its node.
     pub fn share(&self) -> Result<PureView, NoMemory>
         ensures { IfOk result (λ t. t ≡ self.now) }
@@ -195,6 +205,7 @@ impl PureView {
             PureNode::Built(term) => {
                 // Asked for its bound alone.
                 let _depth = term.depth();
+                refuse_large(term, &self.passed)?;
                 whole_built(alloc, term, &self.passed, 0)
             }
             PureNode::Variable(index) => whole_variable(alloc, *index, &self.passed, 0),
@@ -232,9 +243,19 @@ fn put_node(alloc: Global, node: &PureNode, passed: &Passed, part: &Pure) -> Res
             if term.depth() > 4096 {
                 return Err(PutStop::TooDeep);
             }
+            refuse_large(term, passed)?;
             put_built(alloc, term, passed, 0, 0, &Part::Pure(part))
         }
         PureNode::Variable(index) => put_variable(alloc, *index, passed, 0, 0, &Part::Pure(part)),
+    }
+}
+
+/// Refuses a shared tree that would be built anew for these places, where no memory holds what that builds.
+fn refuse_large(term: &Pure, passed: &Passed) -> Result<(), NoMemory> {
+    if term.is_too_large() && !passed.spares(0, term) {
+        Err(NoMemory)
+    } else {
+        Ok(())
     }
 }
 
