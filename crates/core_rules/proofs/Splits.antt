@@ -3,7 +3,7 @@ use Rattle.std.proofs.Common.{◌≡◌, suc, List, [], ◌∷◌, ◌++◌, len
 use Rattle.std.proofs.lemmas.List.{length-append}
 use Rattle.cdle_model.specs.Trees.{of_pure, of_term, of_type, eq_of, Binder, pi_of, all_of, allt_of, iota_of, kpi_of, kpit_of, Binder-discrete, Tree, var, name, leaf, unary, fun, apply, binary, bind}
 use Rattle.cdle_model.specs.Forms.{eq}
-use Rattle.cdle_model.specs.Check.{Questions, binder_parts, equation_parts}
+use Rattle.cdle_model.specs.Check.{Questions, binder_parts, equation_parts, wrong_kind}
 use Rattle.core_reduce.specs.declared.side.SideClass.{SideClass}
 use Rattle.core_reduce.specs.declared.side.SideClass.TheVariants.{OfPure, OfType, OfKind}
 use Rattle.core_reduce.specs.declared.value.Former.{Former}
@@ -11,12 +11,8 @@ use Rattle.core_reduce.specs.declared.value.Former.TheVariants as f
 use Rattle.core_reduce.specs.declared.value.Value.{Value}
 use Rattle.core_reduce.specs.declared.value.Value.TheVariants as v
 use Rattle.core_reduce.specs.Sides.{Sided}
-use Rattle.core_tree.specs.Faults.{IsKept}
 use Rattle.core_reduce.specs.Values.{applied_to, classes, former_class, former_parts, former_tree, IsValueOf, value_tree}
 use Rattle.core_rules.specs.Formers.{binder_of, Binds, IsOther, other_form}
-use Rattle.core_tree.specs.declared.faults.Kept.{Kept}
-use Rattle.core_tree.specs.declared.faults.Why.TheVariants as w
-use Rattle.core_rules.specs.Reasons.{IsWhy}
 
 -- the tree is not of this binder, and no function of pure terms
 abbrev pub NotBound : Binder → Tree → Type 0
@@ -232,16 +228,16 @@ module _ (x : Former) (ps : List Sided) (e : classes ps ≡ former_parts x) (two
   split_is qs rs l r f g = let h = popped ps qs rs l r are_two f g in (ap classes (sym h) ∙ e, ap (former_tree x) h)
 
 -- why a head form is refused that is no product of kinds
-pub kind_why : (x : Former) (a : Tree) (k : Kept Tree) → Binds x → former_class x ≡ OfKind → IsKept a k → IsWhy (other_form x a) (w.WrongKind k None)
-kind_why f.Kpi a k b e h = h
-kind_why f.Kpit a k b e h = h
-kind_why f.Pi a k b e h = absurd cc
-kind_why f.All a k b e h = absurd cc
-kind_why f.Allt a k b e h = absurd cc
-kind_why f.Iota a k b e h = absurd cc
-kind_why f.Tlam a k b e h = absurd b
-kind_why f.Xtlam a k b e h = absurd b
-kind_why f.At a k b e h = absurd b
-kind_why f.On a k b e h = absurd b
-kind_why f.Eq a k b e h = absurd b
-kind_why f.Star a k b e h = absurd b
+pub kind_other : (x : Former) (a : Tree) → Binds x → former_class x ≡ OfKind → other_form x a ≡ wrong_kind a None
+kind_other f.Kpi a b e = refl
+kind_other f.Kpit a b e = refl
+kind_other f.Pi a b e = absurd cc
+kind_other f.All a b e = absurd cc
+kind_other f.Allt a b e = absurd cc
+kind_other f.Iota a b e = absurd cc
+kind_other f.Tlam a b e = absurd b
+kind_other f.Xtlam a b e = absurd b
+kind_other f.At a b e = absurd b
+kind_other f.On a b e = absurd b
+kind_other f.Eq a b e = absurd b
+kind_other f.Star a b e = absurd b

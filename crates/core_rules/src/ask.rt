@@ -1,5 +1,5 @@
 //! The questions of the rules: comparisons and head forms, each with a budget of its own.
-ghost use Rattle.std.specs.Prelude.{◌≡◌, ◌++◌, ◌∷◌, [], IfOk, List, Some, length};
+ghost use Rattle.std.specs.Prelude.{◌≡◌, ◌++◌, ◌∷◌, [], IfOk, List, None, Some, length};
 ghost use Rattle.cdle_model.specs.declared.grammar.Sort.{Sort};
 ghost use Rattle.cdle_model.specs.Check.{ask_head, ask_same, binder_parts, mismatch, refuse, wrong_kind};
 ghost use Rattle.cdle_model.specs.Classes.{Fits, guide_kinds, guides, item_sorts, within};
@@ -7,9 +7,9 @@ ghost use Rattle.cdle_model.specs.Trees.{Tree};
 ghost use Rattle.core_compare.specs.Answers.{ArePlaced};
 ghost use Rattle.core_reduce.specs.Sides.{IsPlaced, class_trees};
 ghost use Rattle.core_tree.specs.Faults.{IsKept};
-ghost use Rattle.core_reduce.specs.Values.{IsValueOf, classes, former_class, former_parts, former_tree};
+ghost use Rattle.core_reduce.specs.Values.{IsValueOf, classes, former_class, former_parts, former_tree, value_tree};
 ghost use Rattle.core_reduce.specs.declared.side.SideClass.TheVariants.{OfKind, OfType};
-ghost use Rattle.core_rules.specs.Faults.{IsStopped, path_of};
+ghost use Rattle.core_rules.specs.Faults.{IsRefusal, IsStopped, path_of};
 ghost use Rattle.core_rules.specs.Formers.{Binds, IsSplit, binder_of, other_form};
 ghost use Rattle.core_rules.specs.Reasons.{IsWhy};
 ghost use Rattle.core_rules.specs.Questions.{FindsParts, MeetsHeadForm, MeetsSame, Passes};
@@ -115,6 +115,24 @@ impl Rules<'_> {
         ))
     }
 
+    /// The head form of the type that this part has.
+    pub(crate) fn head_of_type(&self, number: u32, found: &Guide) -> Result<Value, Fault>
+        requires { IsPlaced 4250000000 (item_sorts self.now.items.now) guides found.now }
+        ensures { MeetsHeadForm self.now.items.now self.now.budget (number ∷ []) OfType found.now result }
+    {
+        let side = Side::of_guide(self.alloc, found)?;
+        self.head(Place::Part(number), &side)
+    }
+
+    /// The head form of the kind that this part has.
+    fn head_of_kind(&self, number: u32, found: &GuideKind) -> Result<Value, Fault>
+        requires { IsPlaced 4250000000 (item_sorts self.now.items.now) guide_kinds found.now }
+        ensures { MeetsHeadForm self.now.items.now self.now.budget (number ∷ []) OfKind found.now result }
+    {
+        let side = Side::of_guide_kind(self.alloc, found)?;
+        self.head(Place::Part(number), &side)
+    }
+
     /// The parts of the product or intersection of types that the type of this part is.
     pub fn type_parts(
         &self,
@@ -131,14 +149,23 @@ impl Rules<'_> {
         ensures fits { IfOk result (λ p. (vs : List Sort) → Fits (within vs (item_sorts self.now.items.now)) guides found.now
             → Fits (within vs (item_sorts self.now.items.now)) guides (former_tree former (p.0 ∷ p.1 ∷ []))) }
     {
-        let side = Side::of_guide(self.alloc, found)?;
-        let value = self.head(Place::Part(number), &side)?;
+        let value = self.head_of_type(number, found)?;
         match split(former, value) {
             Ok(parts) => Ok(parts),
-            Err(value) => {
-                let head = value.tree_guide(self.alloc)?;
-                Err(Fault::refusal(self.alloc, Place::Part(number), other(former, head)))
-            }
+            Err(value) => Err(self.other_type(number, former, &value)),
+        }
+    }
+
+    /// The refusal of a head form that is no product, or no intersection, of types.
+    fn other_type(&self, number: u32, former: Former, value: &Value) -> Fault
+        requires former { Binds former }
+        requires class { former_class former ≡ OfType }
+        requires value { IsValueOf OfType value.now }
+        ensures { IsRefusal (number ∷ []) (other_form former (value_tree OfType value.now)) result }
+    {
+        match value.tree_guide(self.alloc) {
+            Ok(head) => Fault::refusal(self.alloc, Place::Part(number), other(former, head)),
+            Err(_) => Fault::NoMemory,
         }
     }
 
@@ -158,21 +185,26 @@ impl Rules<'_> {
         ensures fits { IfOk result (λ p. (vs : List Sort) → Fits (within vs (item_sorts self.now.items.now)) guide_kinds found.now
             → Fits (within vs (item_sorts self.now.items.now)) guide_kinds (former_tree former (p.0 ∷ p.1 ∷ []))) }
     {
-        let side = Side::of_guide_kind(self.alloc, found)?;
-        let value = self.head(Place::Part(number), &side)?;
+        let value = self.head_of_kind(number, found)?;
         match split(former, value) {
             Ok(parts) => Ok(parts),
-            Err(value) => {
-                let found = value.tree_kind(self.alloc)?;
-                Err(Fault::refusal(
-                    self.alloc,
-                    Place::Part(number),
-                    Why::WrongKind {
-                        found,
-                        wanted: None,
-                    },
-                ))
-            }
+            Err(value) => Err(self.other_kind(number, &value)),
+        }
+    }
+
+    /// The refusal of a head form that is no product of kinds.
+    fn other_kind(&self, number: u32, value: &Value) -> Fault
+        requires { IsValueOf OfKind value.now }
+        ensures { IsRefusal (number ∷ []) (wrong_kind (value_tree OfKind value.now) None) result }
+    {
+        let wanted = None;
+        match value.tree_kind(self.alloc) {
+            Ok(found) => Fault::refusal(
+                self.alloc,
+                Place::Part(number),
+                Why::WrongKind { found, wanted },
+            ),
+            Err(_) => Fault::NoMemory,
         }
     }
 }

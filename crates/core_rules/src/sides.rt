@@ -11,12 +11,14 @@ ghost use Rattle.core_compare.specs.Answers.{ArePlaced};
 ghost use Rattle.core_reduce.specs.Sides.{IsPlaced};
 ghost use Rattle.core_tree.specs.Faults.{IsKept};
 ghost use Rattle.core_reduce.specs.declared.side.SideClass.TheVariants.{OfPure, OfType};
+ghost use Rattle.core_reduce.specs.Values.{IsValueOf, value_tree};
+ghost use Rattle.core_rules.specs.Faults.{IsRefusal};
 ghost use Rattle.core_rules.specs.Questions.{FindsParts, Passes};
 
 use crate::ask::{Rules, split};
 use crate::fault::{Fault, Place};
 use cdle_model::NoMemory;
-use core_reduce::{Former, Side};
+use core_reduce::{Former, Side, Value};
 use core_tree::{Guide, Kept, Pure, Term, Why};
 use std::alloc::Global;
 
@@ -147,14 +149,23 @@ impl Rules<'_> {
         ensures fits { IfOk result (λ p. (vs : List Sort) → Fits (within vs (item_sorts self.now.items.now)) guides found.now
             → Fits (within vs (item_sorts self.now.items.now)) guides (eq p.0.tree p.1.tree)) }
     {
-        let side = Side::of_guide(self.alloc, found)?;
-        let value = self.head(Place::Part(number), &side)?;
+        let value = self.head_of_type(number, found)?;
         match split(Former::Eq, value) {
             Ok(parts) => Ok(parts),
-            Err(value) => {
-                let head = value.tree_guide(self.alloc)?;
-                Err(Fault::refusal(self.alloc, Place::Part(number), Why::NotAnEquation { head }))
+            Err(value) => Err(self.other_than_equation(number, &value)),
+        }
+    }
+
+    /// The refusal of a head form that is no equation.
+    fn other_than_equation(&self, number: u32, value: &Value) -> Fault
+        requires { IsValueOf OfType value.now }
+        ensures { IsRefusal (number ∷ []) (not_an_equation (value_tree OfType value.now)) result }
+    {
+        match value.tree_guide(self.alloc) {
+            Ok(head) => {
+                Fault::refusal(self.alloc, Place::Part(number), Why::NotAnEquation { head })
             }
+            Err(_) => Fault::NoMemory,
         }
     }
 }

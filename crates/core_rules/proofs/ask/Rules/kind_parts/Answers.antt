@@ -1,37 +1,22 @@
-use Rattle.std.proofs.Common.{◌∷◌, [], Ok, Err, subst}
+use Rattle.std.proofs.Common.{◌∷◌, [], None, sym, subst}
 use Rattle.std.proofs.lemmas.Result.{err_from_is_err_and}
 use Rattle.core_reduce.specs.declared.side.SideClass.TheVariants.{OfKind}
 use Rattle.core_reduce.specs.declared.value.Value.{Value}
-use Rattle.core_reduce.specs.Sides.{Sided}
-use Rattle.core_tree.specs.Faults.{IsKept}
 use Rattle.core_reduce.specs.Values.{value_tree}
-use Rattle.core_rules.specs.Formers.{other_form}
-use Rattle.core_rules.specs.Questions.{MeetsHeadForm}
+use Rattle.cdle_model.specs.Check.{Reason, wrong_kind}
+use Rattle.core_rules.specs.Faults.{IsRefusal}
 use Rattle.core_rules.proofs.Asked.{parts_found, other_refuses}
-use Rattle.core_rules.proofs.Splits.{kind_why}
-use Rattle.core_rules.proofs.Results.{no_memory}
+use Rattle.core_rules.proofs.Splits.{kind_other}
 use Rattle.core_rules.proofs.ask.Rules.kind_parts.Goals as goal
 
-pub returns-in_err-side-clause-finds : goal.returns-in_err-side-clause-finds
-returns-in_err-side-clause-finds c = let p = err_from_is_err_and c.from_residual.result c.from_residual.ensures.1 in rw (p.1, p.2) (λ k. no_memory _ _ _)
+pub returns-in_err-value-clause-finds : goal.returns-in_err-value-clause-finds
+returns-in_err-value-clause-finds c = let p = err_from_is_err_and c.from_residual.result c.from_residual.ensures.1 in rw (p.1, p.2) (λ g. c.in_err-value.ensures _)
 
 pub returns-in-Ok-clause-finds : goal.returns-in-Ok-clause-finds
-returns-in-Ok-clause-finds c =
-    parts_found c.args.self.now.items.now c.args.self.now.budget c.args.number c.args.former OfKind c.args.found.now c.in_ok-value.value c.requires.former c.requires.class c.in-Ok.parts
-    (subst (λ (z : Sided). MeetsHeadForm c.args.self.now.items.now c.args.self.now.budget (c.args.number ∷ []) z.class z.tree (Ok c.in_ok-value.value)) c.in_ok-side.ensures c.in_ok-value.ensures) c.in-Ok.ensures
+returns-in-Ok-clause-finds c = parts_found c.args.self.now.items.now c.args.self.now.budget c.args.number c.args.former OfKind c.args.found.now c.in_ok-value.value c.requires.former c.requires.class c.in-Ok.parts c.in_ok-value.ensures c.in-Ok.ensures
 
-pub returns-in_err-value-clause-finds : goal.returns-in_err-value-clause-finds
-returns-in_err-value-clause-finds c =
-    let p = err_from_is_err_and c.from_residual-in_err-value.result c.from_residual-in_err-value.ensures.1 in
-    let h = subst (λ (z : Sided). MeetsHeadForm c.args.self.now.items.now c.args.self.now.budget (c.args.number ∷ []) z.class z.tree (Err c.in_err-value.field-0.0)) c.in_ok-side.ensures c.in_err-value.ensures in
-    rw (p.1, p.2) (λ g. h _)
-
-pub returns-in_err-found-in-Err-clause-finds : goal.returns-in_err-found-in-Err-clause-finds
-returns-in_err-found-in-Err-clause-finds c = let p = err_from_is_err_and c.from_residual-in_err-found-in-Err.result c.from_residual-in_err-found-in-Err.ensures.1 in rw (p.1, p.2) (λ k. no_memory _ _ _)
-
-pub returns-clause-finds : goal.returns-clause-finds
-returns-clause-finds c =
-    let kept = subst (λ (z : Value). IsKept (value_tree OfKind z) c.in_ok-found-in-Err.found) c.in-Err.ensures.0 c.in_ok-found-in-Err.ensures in
-    other_refuses c.args.self.now.items.now c.args.self.now.budget c.args.number c.args.former OfKind c.args.found.now c.in_ok-value.value c.requires.former c.requires.class c.refusal.result
-    (subst (λ (z : Sided). MeetsHeadForm c.args.self.now.items.now c.args.self.now.budget (c.args.number ∷ []) z.class z.tree (Ok c.in_ok-value.value)) c.in_ok-side.ensures c.in_ok-value.ensures) c.in-Err.ensures.1
-    (c.refusal.ensures (other_form c.args.former (value_tree OfKind c.in_ok-value.value)) (kind_why c.args.former (value_tree OfKind c.in_ok-value.value) c.in_ok-found-in-Err.found c.requires.former c.requires.class kept))
+pub returns-in-Err-clause-finds : goal.returns-in-Err-clause-finds
+returns-in-Err-clause-finds c =
+    other_refuses c.args.self.now.items.now c.args.self.now.budget c.args.number c.args.former OfKind c.args.found.now c.in_ok-value.value c.requires.former c.requires.class c.other_kind.result c.in_ok-value.ensures c.in-Err.ensures.1
+    (subst (λ (z : Reason). IsRefusal (c.args.number ∷ []) z c.other_kind.result) (sym (kind_other c.args.former (value_tree OfKind c.in_ok-value.value) c.requires.former c.requires.class))
+    (subst (λ (z : Value). IsRefusal (c.args.number ∷ []) (wrong_kind (value_tree OfKind z) None) c.other_kind.result) c.in-Err.ensures.0 c.other_kind.ensures))
