@@ -56,7 +56,7 @@ impl Rules<'_> {
         }
     }
 
-    /// The type that this part has is the one for which the side stands.
+    /// The type that the part of this number has is the one for which the side stands.
     pub fn type_is_side(&self, number: u32, found: &Guide, wanted: &Side) -> Result<(), Fault>
         requires class { wanted.now.class ≡ OfType }
         requires placed { ArePlaced 4200000000 (item_sorts self.now.items.now) guides found.now wanted.now.tree }
@@ -84,7 +84,7 @@ impl Rules<'_> {
         ))
     }
 
-    /// The kind that this part has is the one for which the side stands.
+    /// The kind that the part of this number has is the one for which the side stands.
     pub fn kind_is_side(&self, number: u32, found: &GuideKind, wanted: &Side) -> Result<(), Fault>
         requires class { wanted.now.class ≡ OfKind }
         requires placed { ArePlaced 4200000000 (item_sorts self.now.items.now) guide_kinds found.now wanted.now.tree }
@@ -115,7 +115,7 @@ impl Rules<'_> {
         ))
     }
 
-    /// The head form of the type that this part has.
+    /// The head form of the type that the part of this number has.
     pub(crate) fn head_of_type(&self, number: u32, found: &Guide) -> Result<Value, Fault>
         requires { IsPlaced 4250000000 (item_sorts self.now.items.now) guides found.now }
         ensures { MeetsHeadForm self.now.items.now self.now.budget (number ∷ []) OfType found.now result }
@@ -124,7 +124,7 @@ impl Rules<'_> {
         self.head(Place::Part(number), &side)
     }
 
-    /// The head form of the kind that this part has.
+    /// The head form of the kind that the part of this number has.
     fn head_of_kind(&self, number: u32, found: &GuideKind) -> Result<Value, Fault>
         requires { IsPlaced 4250000000 (item_sorts self.now.items.now) guide_kinds found.now }
         ensures { MeetsHeadForm self.now.items.now self.now.budget (number ∷ []) OfKind found.now result }
@@ -133,7 +133,7 @@ impl Rules<'_> {
         self.head(Place::Part(number), &side)
     }
 
-    /// The parts of the product or intersection of types that the type of this part is.
+    /// The two parts of the product or intersection that the type of the part of this number is.
     pub fn type_parts(
         &self,
         number: u32,
@@ -169,7 +169,7 @@ impl Rules<'_> {
         }
     }
 
-    /// The parts of the product of kinds that the kind of this part is.
+    /// The two parts of the product that the kind of the part of this number is.
     pub fn kind_parts(
         &self,
         number: u32,

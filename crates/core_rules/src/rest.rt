@@ -23,7 +23,7 @@ use core_tree::{Guide, GuideKind, Pure, Term, Ty, Why};
 use core_view::erasure_lacks;
 
 impl Rules<'_> {
-    /// The kind that this part has is `*`.
+    /// The kind that the part of this number has is `*`.
     pub fn kind_is_star(&self, number: u32, found: &GuideKind) -> Result<(), Fault>
         requires { ArePlaced 4200000000 (item_sorts self.now.items.now) guide_kinds found.now star_tree }
         ensures { Passes self.now.items.now self.now.budget (ask_same (number ∷ []) (wrong_kind found.now (Some star_tree)) found.now star_tree) result }

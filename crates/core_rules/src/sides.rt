@@ -23,7 +23,7 @@ use core_tree::{Guide, Kept, Pure, Term, Why};
 use std::alloc::Global;
 
 impl Rules<'_> {
-    /// The type that this part has is this one.
+    /// The type that the part of this number has is the wanted one.
     pub(crate) fn type_is_guide(
         &self,
         number: u32,
@@ -139,7 +139,7 @@ impl Rules<'_> {
         Err(Fault::refusal(self.alloc, Place::Form, Why::NotBooleans { left, right }))
     }
 
-    /// The sides of the equation that the type of this part is.
+    /// The sides of the equation that the type of the part of this number is.
     pub fn sides(&self, number: u32, found: &Guide) -> Result<(Side, Side), Fault>
         requires { IsPlaced 4250000000 (item_sorts self.now.items.now) guides found.now }
         ensures finds { FindsParts self.now.items.now self.now.budget

@@ -1,5 +1,5 @@
 use Rattle.std.proofs.lemmas.Result.{err_from_is_err_and}
-use Rattle.core_rules.proofs.Results.{leads_low, limited_fault}
+use Rattle.core_rules.proofs.Results.{limited_fault}
 use Rattle.core_rules.proofs.ask.Rules.is_before.Goals as goal
 
 pub returns-in_err-before : goal.returns-in_err-before
