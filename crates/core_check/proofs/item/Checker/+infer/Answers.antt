@@ -1,22 +1,21 @@
 -- A result of a form: each step that passed leads to the rest of its questions, and a fault ends them. So an answer is a chain of the steps that passed,
 -- each by its clause, with what was found last; a type or a term that was erased first stands for its erasure.
-use Rattle.std.proofs.Common.{◌∷◌, [], Ok, Err, Some, ap, refl, subst, sym, ◌∙◌, arith}
+use Rattle.std.proofs.Common.{◌∷◌, [], Ok, ap, refl, subst, sym, ◌∙◌, arith}
 use Rattle.std.proofs.lemmas.Result.{err_from_is_err_and}
 use Rattle.cdle_model.specs.declared.grammar.Sort.TheVariants.{OfTerm, OfType}
 use Rattle.cdle_model.specs.Forms.{star}
 use Rattle.cdle_model.specs.Trees.{Tree, put}
-use Rattle.cdle_model.specs.Classes.{Fits, guide_kinds, guides, item_sorts, kinds, pure_terms, terms, types, within}
+use Rattle.cdle_model.specs.Classes.{guide_kinds, guides, item_sorts, kinds, pure_terms, terms, types}
 use Rattle.cdle_model.specs.Derivation.{a_kind, a_term, a_type, false_pure, signature, true_pure}
 use Rattle.cdle_model.specs.Check.{ask_head, ask_same, binder_parts, equation_parts, infer, mismatch, not_an_equation, not_booleans, refuse, unless_deep}
 use Rattle.cdle_model.proofs.ClassErasure.{erased-fits}
-use Rattle.core_reduce.specs.Sides.{Sided}
 use Rattle.core_tree.specs.Forms.{kind_tree, term_tree, ty_tree}
 use Rattle.core_rules.specs.Context.{entries, sorts}
 use Rattle.core_rules.specs.Formers.{binder_of, other_form}
 use Rattle.core_rules.specs.Questions.{Meets}
 use Rattle.core_check.proofs.Found.{kept}
 use Rattle.core_check.proofs.Placed.{below, both_placed, erased_below, erased_fit, placed, put_fit, used}
-use Rattle.core_rules.proofs.Results.{faults_inside, finds_meets, leads_low, leads_part, limited_fault, limited_meets, no_memory, parts_at, passes_found, passes_parts}
+use Rattle.core_rules.proofs.Results.{faults_inside, finds_meets, leads_part, limited_meets, no_memory, parts_at, passes_found, passes_parts}
 use Rattle.core_check.proofs.item.Checker.+infer.Goals as goal
 
 pub term-returns-in-Ok-clause-finds : goal.term-returns-in-Ok-clause-finds
