@@ -130,9 +130,6 @@ module _ (es : List Written) (n : ℕ) where
   finds_meets a = (0, refl)
 
   -- trees that may be too deep
-  pub leads_low : (a : Tree) (q : Questions) → depth a ≤ 4096 → Leads es n (unless_deep a q) q
-  leads_low a q l r h = let e : ltb deepest (depth a) ≡ false = le-ltb deepest (depth a) l in rw e h
-
   pub limited_fault : (a : Tree) (e : Fault) (q : Questions) → IsLimited a (Err e) → Meets es n (unless_deep a q) (Err e)
   unfolding Meets
   limited_fault a f.TooDeep q l = let e : ltb deepest (depth a) ≡ true = lt-ltb deepest (depth a) l in rw e (0, refl)
