@@ -14,7 +14,7 @@ use Rattle.cdle_model.proofs.CheckLargerBudget.{list-stays}
 use Rattle.cdle_model.proofs.ItemsChecked.{duplicate-lost, refused-lost}
 use Rattle.cdle_model.proofs.Undecided.{undecided-spent}
 use Rattle.core_check.specs.Answer.{IsFaultOf}
-use Rattle.core_check.specs.Reasons.{IsWhy}
+use Rattle.core_rules.specs.Reasons.{IsWhy}
 use Rattle.core_tree.specs.Faults.{IsKept}
 use Rattle.core_tree.specs.declared.faults.CoreFault.TheVariants as fault
 use Rattle.core_tree.specs.declared.faults.Kept.{Kept}

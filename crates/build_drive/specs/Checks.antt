@@ -6,7 +6,7 @@ use Rattle.cdle_model.specs.Derivation.{AreDerived}
 use Rattle.cdle_model.specs.Forms.{Written, name_of}
 use Rattle.cdle_model.specs.HeadForms.{deep}
 use Rattle.cdle_model.specs.declared.grammar.Count.TheVariants.{Depth}
-use Rattle.core_check.specs.Reasons.{IsWhy}
+use Rattle.core_rules.specs.Reasons.{IsWhy}
 use Rattle.build_drive.specs.declared.outcome.Outcome.{Outcome}
 use Rattle.build_drive.specs.declared.outcome.Outcome.TheVariants as outcome
 use Rattle.build_drive.specs.declared.outcome.Reason.TheVariants.{Core, Duplicate}

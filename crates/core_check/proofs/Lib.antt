@@ -1,10 +1,4 @@
-pub mod Passing
-pub mod Results
-pub mod Splits
-pub mod Asked
 pub mod Found
-pub mod Looked
-pub mod Known
 pub mod Placed
 pub mod Lists
 pub mod Standing

@@ -12,7 +12,7 @@ use Rattle.cdle_model.proofs.Scoping.{scoped_used}
 use Rattle.core_compare.specs.Answers.{ArePlaced}
 use Rattle.core_reduce.specs.Sides.{IsPlaced}
 use Rattle.cdle_model.proofs.Scopes.{fits_below_bound}
-use Rattle.core_check.proofs.Looked.{length_sorts}
+use Rattle.core_rules.proofs.Looked.{length_sorts}
 
 module _ (es : List Entry) (xs : List Sort) (few : length es ≤ 4096) where
   pub placed : (c : TreeClass) (a : Tree) → Fits (within (entry_sorts es) xs) c a → IsPlaced 4250000000 xs c a

@@ -13,8 +13,8 @@ use Rattle.cdle_model.specs.Check.{Finding, gives, refused, halts, infer_item, b
 use Rattle.core_tree.specs.declared.faults.Checked.{Checked}
 use Rattle.core_tree.specs.declared.faults.CoreFault.{CoreFault}
 use Rattle.core_tree.specs.declared.faults.CoreFault.TheVariants as fault
-use Rattle.core_check.specs.Answer.{IsFaultOf, IsAnswer, IsItemAnswer}
-use Rattle.core_check.proofs.Passing.{IsFirm, firm_more, spent_more}
+use Rattle.core_check.specs.Answer.{IsFaultOf, IsAnswerAtSome, IsItemAnswerAtSome}
+use Rattle.core_rules.proofs.Passing.{IsFirm, firm_more, spent_more}
 
 -- ---- names
 
@@ -107,7 +107,7 @@ module _ (n : ℕ) (ws es rest : List Written) (names : List ℕ → Option ℕ)
       (u + 0, rw (whole_is, count) (s.passed.answers 0 (w ∷ more) ∙ ap (λ (o : Option ℕ). by_name (length es) o (by_finding (length es) (check_item (u + 0) es w) (check_after (u + 0) (es ++ (w ∷ [])) more))) name))
 
   -- it has a new name, and is not accepted
-  pub faulted : (q : List ℕ) (f : CoreFault) → q ≡ name_of w → names q ≡ None → IsItemAnswer n es w (Err f) → IsFaultOf n ws f
+  pub faulted : (q : List ℕ) (f : CoreFault) → q ≡ name_of w → names q ≡ None → IsItemAnswerAtSome n es w (Err f) → IsFaultOf n ws f
   faulted q fault.NoMemory named found h = tt
   faulted q (fault.Refused i path why) named found (count, m, r, h, k) =
       (s.passed.units + m, r, rw (whole_is, count) (at_item n es w more m (refused path r) s.passed (new_is q named found) tt h), k)
@@ -123,10 +123,10 @@ module _ (n : ℕ) (ws es rest : List Written) (names : List ℕ → Option ℕ)
   faulted q (fault.Duplicate i k) named found h = absurd h
 
   -- it has a new name, and is accepted
-  found_more : (q : List ℕ) → q ≡ name_of w → names q ≡ None → IsItemAnswer n es w (Ok tt) → Passed n (es ++ (w ∷ []))
+  found_more : (q : List ℕ) → q ≡ name_of w → names q ≡ None → IsItemAnswerAtSome n es w (Ok tt) → Passed n (es ++ (w ∷ []))
   found_more q named found (m, a, h) = one_more_passes n es w m a s.passed (new_is q named found) h
 
-  pub advanced : (q : List ℕ) (es_new : List Written) (names_new : List ℕ → Option ℕ) → q ≡ name_of w → names q ≡ None → IsItemAnswer n es w (Ok tt) → es_new ≡ es ++ (w ∷ [])
+  pub advanced : (q : List ℕ) (es_new : List Written) (names_new : List ℕ → Option ℕ) → q ≡ name_of w → names q ≡ None → IsItemAnswerAtSome n es w (Ok tt) → es_new ≡ es ++ (w ∷ [])
       → ((x : List ℕ) → names_new x ≡ cond (bytes_eq (name_of w) x) (Some (length es)) (names x)) → Standing n ws es_new more names_new
   advanced q es_new names_new named found h grown step = subst (λ (l : List Written). Standing n ws l more names_new) (sym grown) (record {
     whole = whole_is ∙ sym (append_assoc es (w ∷ []) more);
@@ -135,7 +135,7 @@ module _ (n : ℕ) (ws es rest : List Written) (names : List ℕ → Option ℕ)
     passed = found_more q named found h;
   })
 
-pub finished : (n : ℕ) (ws es rest : List Written) (names : List ℕ → Option ℕ) (c : Checked) → Standing n ws es rest names → rest ≡ [] → c.items ≡ length es → IsAnswer n ws (Ok c)
+pub finished : (n : ℕ) (ws es rest : List Written) (names : List ℕ → Option ℕ) (c : Checked) → Standing n ws es rest names → rest ≡ [] → c.items ≡ length es → IsAnswerAtSome n ws (Ok c)
 finished n ws es rest names c s e count =
     let whole : ws ≡ es ++ [] = s.whole ∙ ap (λ (l : List Written). es ++ l) e in
     let none : es ++ [] ≡ es = append-nil es in

@@ -5,11 +5,12 @@ ghost use Rattle.cdle_model.specs.Classes.{AreScoped, IsScopedOver};
 ghost use Rattle.cdle_model.specs.Derivation.{AreDerived};
 ghost use Rattle.cdle_model.specs.Fitting.{ItemHasErasures};
 ghost use Rattle.core_tree.specs.Items.{written};
-ghost use Rattle.core_check.specs.Answer.{Agrees, HaveNone, IsAnswer, IsItemAnswer};
+ghost use Rattle.core_check.specs.Answer.{AgreesWith, HaveNoDerivation, IsAnswerAtSome, IsItemAnswerAtSome};
 ghost use Rattle.core_check.specs.Items.{items_of};
 
-use crate::ask::Rules;
+use crate::item::Checker;
 use core_reduce::CheckedItems;
+use core_rules::Rules;
 use core_tree::{Checked, CoreFault, CoreFile, CoreItem};
 use std::alloc::{AllocError, Global};
 use std::collections::HashMap;
@@ -43,7 +44,7 @@ fn check_item(
     budget: u64,
 ) -> Result<(), CoreFault>
     requires { IsScopedOver checked.now (written item.now) }
-    ensures answer { IsItemAnswer budget checked.now (written item.now) result }
+    ensures answer { IsItemAnswerAtSome budget checked.now (written item.now) result }
     ensures erasures { IfOk result (λ _. ItemHasErasures (written item.now)) }
 {
     let rules = Rules {
@@ -51,7 +52,7 @@ fn check_item(
         items: checked,
         budget,
     };
-    match rules.item(item) {
+    match (Checker { rules }).item(item) {
         Ok(()) => Ok(()),
         Err(fault) => Err(fault.of_item(checked.len())),
     }
@@ -60,7 +61,7 @@ fn check_item(
 /// Checks the items in their order. A name that an earlier item has is found before its item is checked.
 fn check_all(alloc: Global, items: &[&CoreItem], budget: u64) -> Result<Checked, CoreFault>
     requires { AreScoped (map (λ item. written item.now) items.now) }
-    ensures { IsAnswer budget (map (λ item. written item.now) items.now) result }
+    ensures { IsAnswerAtSome budget (map (λ item. written item.now) items.now) result }
 {
     let mut checked = CheckedItems::new(alloc);
     let mut names: HashMap<String, u32> = HashMap::new(alloc);
@@ -86,10 +87,10 @@ fn check_all(alloc: Global, items: &[&CoreItem], budget: u64) -> Result<Checked,
 /// At the first that is not: an earlier item has its name, or it breaks a rule, or the budget was spent, or a tree was too deep.
 pub fn check_files(alloc: Global, files: &Vec<CoreFile>, budget: u64) -> Result<Checked, CoreFault>
     requires items { AreScoped (items_of files.now.items) }
-    ensures answer { IsAnswer budget (items_of files.now.items) result }
+    ensures answer { IsAnswerAtSome budget (items_of files.now.items) result }
     ensures derived { IfOk result (λ _. AreDerived (items_of files.now.items)) }
-    ensures none { HaveNone (items_of files.now.items) result }
-    ensures so { Agrees (check_items budget (items_of files.now.items)) result }
+    ensures none { HaveNoDerivation (items_of files.now.items) result }
+    ensures so { AgreesWith (check_items budget (items_of files.now.items)) result }
 {
     let items = all_items(alloc, files)?;
     check_all(alloc, &items, budget)

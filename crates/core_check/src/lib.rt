@@ -3,17 +3,13 @@
 //! `check_files` reads Core's rules upwards over the items of files, in their order, and puts to comparison and head forms what each rule asks, with a
 //! budget for each question. What it accepts has a derivation; the items up to one that it refuses have none; every refusal is the definitions', with
 //! item, path and values; and wherever the definitions' check has a verdict at the budget given, the answer is that verdict, or want of memory.
-//! It stands on the comparison (`core_compare`), on head forms (`core_reduce`), on the trees (`core_tree`) and on the definitions (`cdle_model`) alone.
+//! What a rule asks and gives lies below (`core_rules`); here are the recursion over the forms and the list of items. It stands on `core_rules`, the
+//! comparison (`core_compare`), head forms (`core_reduce`), the trees (`core_tree`) and the definitions (`cdle_model`) alone.
 #![tactic(auto)]
 
-mod ask;
 mod check;
-mod context;
-mod fault;
 mod item;
 mod kind;
-mod limit;
-mod sides;
 mod term;
 mod ty;
 

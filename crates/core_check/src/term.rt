@@ -1,54 +1,58 @@
 //! The types of terms, by Core's rules read upwards.
-ghost use Rattle.std.specs.Prelude.{◌+◌, ◌≤◌, IfOk, length};
-ghost use Rattle.cdle_model.specs.Check.{at_part, infer};
-ghost use Rattle.cdle_model.specs.Classes.{Fits, guides, item_sorts, terms, within};
+ghost use Rattle.std.specs.Prelude.{◌≡◌, ◌+◌, ◌∷◌, ◌≤◌, [], IfOk, length, max};
+ghost use Rattle.cdle_model.specs.Check.{ask_same, at_part, binder_then, equation_then, has_then, infer, limited as limited_tree, mismatch, not_booleans, sides_differ, star_then, unless_deep};
+ghost use Rattle.cdle_model.specs.Classes.{Fits, guides, item_sorts, pure_terms, terms, types, within};
 ghost use Rattle.cdle_model.specs.Depth.{depth};
-ghost use Rattle.cdle_model.specs.Derivation.{a_term, signature};
-ghost use Rattle.cdle_model.specs.Erasure.{HasErasure};
+ghost use Rattle.cdle_model.specs.Derivation.{a_term, a_type, false_pure, signature, true_pure};
+ghost use Rattle.cdle_model.specs.Erasure.{HasErasure, erased};
 ghost use Rattle.cdle_model.specs.Fitting.{ContextFits};
-ghost use Rattle.cdle_model.specs.Forms.{app, delta, eapp, elam, fst, lam, pair, phi, rho, snd, tapp, xlam};
-ghost use Rattle.cdle_model.specs.Trees.{name, var};
-ghost use Rattle.core_check.specs.Context.{entries, sorts};
-ghost use Rattle.core_check.specs.Questions.{Finds, Meets};
+ghost use Rattle.cdle_model.specs.Forms.{app, delta, eapp, elam, eq as eq_tree, fst, lam, pair, phi, pi as pi_tree, rho, snd, tapp, xlam};
+ghost use Rattle.cdle_model.specs.Trees.{put};
+ghost use Rattle.cdle_model.specs.declared.grammar.Sort.TheVariants.{OfTerm};
+ghost use Rattle.core_rules.specs.Context.{entries, sorts};
+ghost use Rattle.core_rules.specs.Formers.{Binds, binder_of, other_form};
+ghost use Rattle.core_rules.specs.Questions.{Finds, FindsParts, Meets, Passes};
+ghost use Rattle.core_reduce.specs.Values.{classes, former_class, former_parts, former_tree};
+ghost use Rattle.core_reduce.specs.declared.side.SideClass.TheVariants.{OfPure, OfType as OfTypes};
 
-use crate::ask::Rules;
-use crate::context::Context;
-use crate::fault::{Fault, Place};
-use crate::limit::{
-    all, allt, eq, iota, lacks, limited, pi, put_side, put_term, put_term_in_type,
-    put_type_in_type, whole_type,
-};
-use core_reduce::Former;
-use core_tree::{CoreItem, Guide, Kind, Pure, Term, TermForm, Ty, Why};
+use crate::item::Checker;
+use core_reduce::{Former, Side};
+use core_rules::{Context, Fault, allt, eq, limited, pi, whole_type};
+use core_tree::{Guide, Kind, Pure, Term, TermForm, Ty};
 
-impl Rules<'_> {
-    /// The type of the term that is this part of its form.
+impl Checker<'_> {
+    /// The type of the term that is the part of this number.
     #[cycle(infer)]
-    pub(crate) fn term(&self, part: u32, context: &Context<'_>, term: &Term) -> Result<Guide, Fault>
-        requires context { ContextFits (item_sorts self.now.items.now) (entries context.now) }
-        requires fits { Fits (within (sorts context.now) (item_sorts self.now.items.now)) terms term.now }
+    pub(crate) fn term(
+        &self,
+        number: u32,
+        context: &Context<'_>,
+        term: &Term,
+    ) -> Result<Guide, Fault>
+        requires context { ContextFits (item_sorts self.now.rules.items.now) (entries context.now) }
+        requires fits { Fits (within (sorts context.now) (item_sorts self.now.rules.items.now)) terms term.now }
         requires few { length (entries context.now) + depth term.now ≤ 4096 }
-        ensures finds { Finds self.now.items.now self.now.budget (at_part part (infer (signature self.now.items.now) a_term (entries context.now) term.now)) result }
+        ensures finds { Finds self.now.rules.items.now self.now.rules.budget (at_part number (infer (signature self.now.rules.items.now) a_term (entries context.now) term.now)) result }
         ensures erasure { IfOk result (λ _. HasErasure term.now) }
-        ensures fits { IfOk result (λ ty. Fits (within (sorts context.now) (item_sorts self.now.items.now)) guides ty) }
+        ensures fits { IfOk result (λ ty. Fits (within (sorts context.now) (item_sorts self.now.rules.items.now)) guides ty) }
     {
-        self.items.known();
+        self.rules.items.known();
         match self.term_form(context, term) {
             Ok(ty) => Ok(ty),
-            Err(fault) => Err(fault.inside(part)),
+            Err(fault) => Err(fault.inside(number)),
         }
     }
 
     #[cycle(infer)]
     fn term_form(&self, context: &Context<'_>, term: &Term) -> Result<Guide, Fault>
-        requires context { ContextFits (item_sorts self.now.items.now) (entries context.now) }
-        requires fits { Fits (within (sorts context.now) (item_sorts self.now.items.now)) terms term.now }
+        requires context { ContextFits (item_sorts self.now.rules.items.now) (entries context.now) }
+        requires fits { Fits (within (sorts context.now) (item_sorts self.now.rules.items.now)) terms term.now }
         requires few { length (entries context.now) + depth term.now ≤ 4096 }
-        ensures { Meets self.now.items.now self.now.budget (infer (signature self.now.items.now) a_term (entries context.now) term.now) result }
+        ensures { Meets self.now.rules.items.now self.now.rules.budget (infer (signature self.now.rules.items.now) a_term (entries context.now) term.now) result }
     {
         match term.form() {
-            TermForm::Var(index) => self.variable_type(context, *index),
-            TermForm::Name(item) => self.item_type(context, *item),
+            TermForm::Var(index) => self.rules.variable_type(context, *index),
+            TermForm::Name(item) => self.rules.item_type(context, *item),
             TermForm::Lam(ty, part) => self.abstraction(context, ty, part),
             TermForm::Elam(ty, part) => self.erased_abstraction(context, ty, part),
             TermForm::Xlam(kind, part) => self.type_abstraction(context, kind, part),
@@ -58,7 +62,7 @@ impl Rules<'_> {
             TermForm::Pair(left, right, ty) => self.pair(context, left, right, ty),
             TermForm::Fst(part) => self.first(context, part),
             TermForm::Snd(part) => self.second(context, part),
-            TermForm::Beta(side, _) => eq(self.alloc, side, side),
+            TermForm::Beta(side, _) => eq(self.rules.alloc, side, side),
             TermForm::Rho(proof, guide, ty, part) => {
                 self.rewriting(context, proof, guide, ty, part)
             }
@@ -67,37 +71,61 @@ impl Rules<'_> {
         }
     }
 
-    fn variable_type(&self, context: &Context<'_>, index: u32) -> Result<Guide, Fault>
-        requires context { ContextFits (item_sorts self.now.items.now) (entries context.now) }
-        requires fits { Fits (within (sorts context.now) (item_sorts self.now.items.now)) terms (var index) }
-        requires few { length (entries context.now) ≤ 4096 }
-        ensures { Meets self.now.items.now self.now.budget (infer (signature self.now.items.now) a_term (entries context.now) (var index)) result }
+    /// The parts of the product, or of the intersection, that the type of this term is.
+    #[cycle(infer)]
+    fn product_of(
+        &self,
+        former: Former,
+        context: &Context<'_>,
+        term: &Term,
+    ) -> Result<(Side, Side), Fault>
+        requires former { Binds former }
+        requires class { former_class former ≡ OfTypes }
+        requires context { ContextFits (item_sorts self.now.rules.items.now) (entries context.now) }
+        requires fits { Fits (within (sorts context.now) (item_sorts self.now.rules.items.now)) terms term.now }
+        requires few { length (entries context.now) + depth term.now ≤ 4096 }
+        ensures finds { FindsParts self.now.rules.items.now self.now.rules.budget
+            (binder_then 1 (binder_of former) (other_form former) (infer (signature self.now.rules.items.now) a_term (entries context.now) term.now)) result }
+        ensures erasure { IfOk result (λ _. HasErasure term.now) }
+        ensures classes { IfOk result (λ p. classes (p.0 ∷ p.1 ∷ []) ≡ former_parts former) }
+        ensures fits { IfOk result (λ p. Fits (within (sorts context.now) (item_sorts self.now.rules.items.now)) guides (former_tree former (p.0 ∷ p.1 ∷ []))) }
     {
-        limited(self.type_of(context, index, 0)?)
+        let found = self.term(1, context, term)?;
+        self.rules.type_parts(1, former, &found)
     }
 
-    fn item_type(&self, context: &Context<'_>, item: u32) -> Result<Guide, Fault>
-        requires fits { Fits (within (sorts context.now) (item_sorts self.now.items.now)) terms (name item) }
-        ensures { Meets self.now.items.now self.now.budget (infer (signature self.now.items.now) a_term (entries context.now) (name item)) result }
+    /// The sides of the equation that the type of the part of this number is.
+    #[cycle(infer)]
+    fn equation_of(
+        &self,
+        number: u32,
+        context: &Context<'_>,
+        term: &Term,
+    ) -> Result<(Side, Side), Fault>
+        requires context { ContextFits (item_sorts self.now.rules.items.now) (entries context.now) }
+        requires fits { Fits (within (sorts context.now) (item_sorts self.now.rules.items.now)) terms term.now }
+        requires few { length (entries context.now) + depth term.now ≤ 4096 }
+        ensures finds { FindsParts self.now.rules.items.now self.now.rules.budget
+            (equation_then number (infer (signature self.now.rules.items.now) a_term (entries context.now) term.now)) result }
+        ensures left { IfOk result (λ p. p.0.class ≡ OfPure) }
+        ensures right { IfOk result (λ p. p.1.class ≡ OfPure) }
+        ensures fits { IfOk result (λ p. Fits (within (sorts context.now) (item_sorts self.now.rules.items.now)) guides (eq_tree p.0.tree p.1.tree)) }
     {
-        self.items.known();
-        match self.items.get(item) {
-            CoreItem::Def { ty, .. } => limited(ty.erase(self.alloc)?),
-            CoreItem::TypeDef { .. } => unreachable!(),
-        }
+        let found = self.term(number, context, term)?;
+        self.rules.sides(number, &found)
     }
 
     /// A function.
     #[cycle(infer)]
     fn abstraction(&self, context: &Context<'_>, ty: &Ty, part: &Term) -> Result<Guide, Fault>
-        requires context { ContextFits (item_sorts self.now.items.now) (entries context.now) }
-        requires fits { Fits (within (sorts context.now) (item_sorts self.now.items.now)) terms (lam ty.now part.now) }
+        requires context { ContextFits (item_sorts self.now.rules.items.now) (entries context.now) }
+        requires fits { Fits (within (sorts context.now) (item_sorts self.now.rules.items.now)) terms (lam ty.now part.now) }
         requires few { length (entries context.now) + depth (lam ty.now part.now) ≤ 4096 }
-        ensures { Meets self.now.items.now self.now.budget (infer (signature self.now.items.now) a_term (entries context.now) (lam ty.now part.now)) result }
+        ensures { Meets self.now.rules.items.now self.now.rules.budget (infer (signature self.now.rules.items.now) a_term (entries context.now) (lam ty.now part.now)) result }
     {
-        let domain = self.star(1, context, ty)?;
+        let domain = self.erased_type(1, context, ty)?;
         let found = self.term(2, &Context::Term(&domain, &*context), part)?;
-        pi(self.alloc, &domain, &found)
+        pi(self.rules.alloc, &domain, &found)
     }
 
     /// A function whose argument is erased, and so is not in the erasure of its body.
@@ -108,18 +136,14 @@ impl Rules<'_> {
         ty: &Ty,
         part: &Term,
     ) -> Result<Guide, Fault>
-        requires context { ContextFits (item_sorts self.now.items.now) (entries context.now) }
-        requires fits { Fits (within (sorts context.now) (item_sorts self.now.items.now)) terms (elam ty.now part.now) }
+        requires context { ContextFits (item_sorts self.now.rules.items.now) (entries context.now) }
+        requires fits { Fits (within (sorts context.now) (item_sorts self.now.rules.items.now)) terms (elam ty.now part.now) }
         requires few { length (entries context.now) + depth (elam ty.now part.now) ≤ 4096 }
-        ensures { Meets self.now.items.now self.now.budget (infer (signature self.now.items.now) a_term (entries context.now) (elam ty.now part.now)) result }
+        ensures { Meets self.now.rules.items.now self.now.rules.budget (infer (signature self.now.rules.items.now) a_term (entries context.now) (elam ty.now part.now)) result }
     {
-        let domain = self.star(1, context, ty)?;
+        let domain = self.erased_type(1, context, ty)?;
         let found = self.term(2, &Context::Term(&domain, &*context), part)?;
-        let body = part.erase(self.alloc)?;
-        if !lacks(&body, 0) {
-            return Err(Fault::refusal(self.alloc, Place::Form, Why::ErasedUse));
-        }
-        all(self.alloc, &domain, &found)
+        self.rules.erased_product(&domain, &found, part)
     }
 
     /// A function over types.
@@ -130,30 +154,26 @@ impl Rules<'_> {
         kind: &Kind,
         part: &Term,
     ) -> Result<Guide, Fault>
-        requires context { ContextFits (item_sorts self.now.items.now) (entries context.now) }
-        requires fits { Fits (within (sorts context.now) (item_sorts self.now.items.now)) terms (xlam kind.now part.now) }
+        requires context { ContextFits (item_sorts self.now.rules.items.now) (entries context.now) }
+        requires fits { Fits (within (sorts context.now) (item_sorts self.now.rules.items.now)) terms (xlam kind.now part.now) }
         requires few { length (entries context.now) + depth (xlam kind.now part.now) ≤ 4096 }
-        ensures { Meets self.now.items.now self.now.budget (infer (signature self.now.items.now) a_term (entries context.now) (xlam kind.now part.now)) result }
+        ensures { Meets self.now.rules.items.now self.now.rules.budget (infer (signature self.now.rules.items.now) a_term (entries context.now) (xlam kind.now part.now)) result }
     {
-        let domain = self.kind(1, context, kind)?;
+        let domain = self.erased_kind(1, context, kind)?;
         let found = self.term(2, &Context::Type(&domain, &*context), part)?;
-        allt(self.alloc, &domain, &found)
+        allt(self.rules.alloc, &domain, &found)
     }
 
     /// A function applied.
     #[cycle(infer)]
     fn application(&self, context: &Context<'_>, head: &Term, arg: &Term) -> Result<Guide, Fault>
-        requires context { ContextFits (item_sorts self.now.items.now) (entries context.now) }
-        requires fits { Fits (within (sorts context.now) (item_sorts self.now.items.now)) terms (app head.now arg.now) }
+        requires context { ContextFits (item_sorts self.now.rules.items.now) (entries context.now) }
+        requires fits { Fits (within (sorts context.now) (item_sorts self.now.rules.items.now)) terms (app head.now arg.now) }
         requires few { length (entries context.now) + depth (app head.now arg.now) ≤ 4096 }
-        ensures { Meets self.now.items.now self.now.budget (infer (signature self.now.items.now) a_term (entries context.now) (app head.now arg.now)) result }
+        ensures { Meets self.now.rules.items.now self.now.rules.budget (infer (signature self.now.rules.items.now) a_term (entries context.now) (app head.now arg.now)) result }
     {
-        let found = self.term(1, context, head)?;
-        let (domain, range) = self.type_parts(1, Former::Pi, &found)?;
-        let found = self.term(2, context, arg)?;
-        self.has_type(2, &found, &domain)?;
-        let arg = arg.erase(self.alloc)?;
-        put_term_in_type(self.alloc, &range, &arg)
+        let parts = self.product_of(Former::Pi, context, head)?;
+        self.applied(&parts, context, arg)
     }
 
     /// A function applied to an argument that is erased.
@@ -164,33 +184,47 @@ impl Rules<'_> {
         head: &Term,
         arg: &Term,
     ) -> Result<Guide, Fault>
-        requires context { ContextFits (item_sorts self.now.items.now) (entries context.now) }
-        requires fits { Fits (within (sorts context.now) (item_sorts self.now.items.now)) terms (eapp head.now arg.now) }
+        requires context { ContextFits (item_sorts self.now.rules.items.now) (entries context.now) }
+        requires fits { Fits (within (sorts context.now) (item_sorts self.now.rules.items.now)) terms (eapp head.now arg.now) }
         requires few { length (entries context.now) + depth (eapp head.now arg.now) ≤ 4096 }
-        ensures { Meets self.now.items.now self.now.budget (infer (signature self.now.items.now) a_term (entries context.now) (eapp head.now arg.now)) result }
+        ensures { Meets self.now.rules.items.now self.now.rules.budget (infer (signature self.now.rules.items.now) a_term (entries context.now) (eapp head.now arg.now)) result }
     {
-        let found = self.term(1, context, head)?;
-        let (domain, range) = self.type_parts(1, Former::All, &found)?;
+        let parts = self.product_of(Former::All, context, head)?;
+        self.applied(&parts, context, arg)
+    }
+
+    /// The type of a function of these parts at an argument, which may be erased.
+    #[cycle(infer)]
+    fn applied(
+        &self,
+        parts: &(Side, Side),
+        context: &Context<'_>,
+        arg: &Term,
+    ) -> Result<Guide, Fault>
+        requires domain { parts.now.0.class ≡ OfTypes }
+        requires range { parts.now.1.class ≡ OfTypes }
+        requires context { ContextFits (item_sorts self.now.rules.items.now) (entries context.now) }
+        requires parts_fit { Fits (within (sorts context.now) (item_sorts self.now.rules.items.now)) guides (pi_tree parts.now.0.tree parts.now.1.tree) }
+        requires fits { Fits (within (sorts context.now) (item_sorts self.now.rules.items.now)) terms arg.now }
+        requires few { length (entries context.now) + depth arg.now ≤ 4096 }
+        ensures { Meets self.now.rules.items.now self.now.rules.budget (has_then 2 (λ found. mismatch found parts.now.0.tree)
+            (infer (signature self.now.rules.items.now) a_term (entries context.now) arg.now) parts.now.0.tree (limited_tree (put 0 (erased arg.now) parts.now.1.tree))) result }
+    {
         let found = self.term(2, context, arg)?;
-        self.has_type(2, &found, &domain)?;
-        let arg = arg.erase(self.alloc)?;
-        put_term_in_type(self.alloc, &range, &arg)
+        self.rules.type_at_term(parts, &found, arg)
     }
 
     /// A function over types applied.
     #[cycle(infer)]
     fn type_application(&self, context: &Context<'_>, head: &Term, arg: &Ty) -> Result<Guide, Fault>
-        requires context { ContextFits (item_sorts self.now.items.now) (entries context.now) }
-        requires fits { Fits (within (sorts context.now) (item_sorts self.now.items.now)) terms (tapp head.now arg.now) }
+        requires context { ContextFits (item_sorts self.now.rules.items.now) (entries context.now) }
+        requires fits { Fits (within (sorts context.now) (item_sorts self.now.rules.items.now)) terms (tapp head.now arg.now) }
         requires few { length (entries context.now) + depth (tapp head.now arg.now) ≤ 4096 }
-        ensures { Meets self.now.items.now self.now.budget (infer (signature self.now.items.now) a_term (entries context.now) (tapp head.now arg.now)) result }
+        ensures { Meets self.now.rules.items.now self.now.rules.budget (infer (signature self.now.rules.items.now) a_term (entries context.now) (tapp head.now arg.now)) result }
     {
-        let found = self.term(1, context, head)?;
-        let (domain, range) = self.type_parts(1, Former::Allt, &found)?;
+        let parts = self.product_of(Former::Allt, context, head)?;
         let found = self.ty(2, context, arg)?;
-        self.has_kind(2, &found, &domain)?;
-        let arg = arg.erase(self.alloc)?;
-        put_type_in_type(self.alloc, &range, &arg)
+        self.rules.type_at_type(&parts, &found, arg)
     }
 
     /// A pair of one term under two types.
@@ -202,47 +236,40 @@ impl Rules<'_> {
         right: &Term,
         ty: &Ty,
     ) -> Result<Guide, Fault>
-        requires context { ContextFits (item_sorts self.now.items.now) (entries context.now) }
-        requires fits { Fits (within (sorts context.now) (item_sorts self.now.items.now)) terms (pair left.now right.now ty.now) }
+        requires context { ContextFits (item_sorts self.now.rules.items.now) (entries context.now) }
+        requires fits { Fits (within (sorts context.now) (item_sorts self.now.rules.items.now)) terms (pair left.now right.now ty.now) }
         requires few { length (entries context.now) + depth (pair left.now right.now ty.now) ≤ 4096 }
-        ensures { Meets self.now.items.now self.now.budget (infer (signature self.now.items.now) a_term (entries context.now) (pair left.now right.now ty.now)) result }
+        ensures { Meets self.now.rules.items.now self.now.rules.budget (infer (signature self.now.rules.items.now) a_term (entries context.now) (pair left.now right.now ty.now)) result }
     {
         let left_type = self.term(1, context, left)?;
-        let right_type = self.star(3, &Context::Term(&left_type, &*context), ty)?;
+        let right_type = self.erased_type(3, &Context::Term(&left_type, &*context), ty)?;
         let found = self.term(2, context, right)?;
-        let left = left.erase(self.alloc)?;
-        let wanted = put_term(self.alloc, &right_type, &left)?;
-        self.has_whole_type(2, &found, &wanted)?;
-        let right = right.erase(self.alloc)?;
-        self.same_parts(&left, &right)?;
-        iota(self.alloc, &left_type, &right_type)
+        self.rules
+            .paired(&left_type, &right_type, &found, left, right)
     }
 
     /// The first view of an intersection.
     #[cycle(infer)]
     fn first(&self, context: &Context<'_>, part: &Term) -> Result<Guide, Fault>
-        requires context { ContextFits (item_sorts self.now.items.now) (entries context.now) }
-        requires fits { Fits (within (sorts context.now) (item_sorts self.now.items.now)) terms (fst part.now) }
+        requires context { ContextFits (item_sorts self.now.rules.items.now) (entries context.now) }
+        requires fits { Fits (within (sorts context.now) (item_sorts self.now.rules.items.now)) terms (fst part.now) }
         requires few { length (entries context.now) + depth (fst part.now) ≤ 4096 }
-        ensures { Meets self.now.items.now self.now.budget (infer (signature self.now.items.now) a_term (entries context.now) (fst part.now)) result }
+        ensures { Meets self.now.rules.items.now self.now.rules.budget (infer (signature self.now.rules.items.now) a_term (entries context.now) (fst part.now)) result }
     {
-        let found = self.term(1, context, part)?;
-        let (left, _right) = self.type_parts(1, Former::Iota, &found)?;
-        whole_type(self.alloc, &left)
+        let parts = self.product_of(Former::Iota, context, part)?;
+        whole_type(self.rules.alloc, &parts.0)
     }
 
     /// The second view of an intersection.
     #[cycle(infer)]
     fn second(&self, context: &Context<'_>, part: &Term) -> Result<Guide, Fault>
-        requires context { ContextFits (item_sorts self.now.items.now) (entries context.now) }
-        requires fits { Fits (within (sorts context.now) (item_sorts self.now.items.now)) terms (snd part.now) }
+        requires context { ContextFits (item_sorts self.now.rules.items.now) (entries context.now) }
+        requires fits { Fits (within (sorts context.now) (item_sorts self.now.rules.items.now)) terms (snd part.now) }
         requires few { length (entries context.now) + depth (snd part.now) ≤ 4096 }
-        ensures { Meets self.now.items.now self.now.budget (infer (signature self.now.items.now) a_term (entries context.now) (snd part.now)) result }
+        ensures { Meets self.now.rules.items.now self.now.rules.budget (infer (signature self.now.rules.items.now) a_term (entries context.now) (snd part.now)) result }
     {
-        let found = self.term(1, context, part)?;
-        let (_left, right) = self.type_parts(1, Former::Iota, &found)?;
-        let part = part.erase(self.alloc)?;
-        put_term_in_type(self.alloc, &right, &part)
+        let parts = self.product_of(Former::Iota, context, part)?;
+        self.rules.second_type(&parts, part)
     }
 
     /// A term under a type that is rewritten by an equation.
@@ -255,20 +282,65 @@ impl Rules<'_> {
         ty: &Ty,
         part: &Term,
     ) -> Result<Guide, Fault>
-        requires context { ContextFits (item_sorts self.now.items.now) (entries context.now) }
-        requires fits { Fits (within (sorts context.now) (item_sorts self.now.items.now)) terms (rho proof.now guide.now ty.now part.now) }
+        requires context { ContextFits (item_sorts self.now.rules.items.now) (entries context.now) }
+        requires fits { Fits (within (sorts context.now) (item_sorts self.now.rules.items.now)) terms (rho proof.now guide.now ty.now part.now) }
         requires few { length (entries context.now) + depth (rho proof.now guide.now ty.now part.now) ≤ 4096 }
-        ensures { Meets self.now.items.now self.now.budget (infer (signature self.now.items.now) a_term (entries context.now) (rho proof.now guide.now ty.now part.now)) result }
+        ensures { Meets self.now.rules.items.now self.now.rules.budget (infer (signature self.now.rules.items.now) a_term (entries context.now) (rho proof.now guide.now ty.now part.now)) result }
     {
-        let found = self.term(1, context, proof)?;
-        let (left, right) = self.sides(1, &found)?;
-        let ty = self.star(3, context, ty)?;
-        let before = put_side(self.alloc, guide, &left)?;
-        self.same_types(&ty, &before)?;
-        let found = self.term(4, context, part)?;
-        let after = put_side(self.alloc, guide, &right)?;
-        self.has_whole_type(4, &found, &after)?;
+        let sides = self.equation_of(1, context, proof)?;
+        self.rewritten(&sides, context, guide, ty, part)
+    }
+
+    /// The type of a `rho`, which is the guide with one side of the equation where that of the part is the guide with the other.
+    #[cycle(infer)]
+    fn rewritten(
+        &self,
+        sides: &(Side, Side),
+        context: &Context<'_>,
+        guide: &Guide,
+        ty: &Ty,
+        part: &Term,
+    ) -> Result<Guide, Fault>
+        requires left { sides.now.0.class ≡ OfPure }
+        requires right { sides.now.1.class ≡ OfPure }
+        requires context { ContextFits (item_sorts self.now.rules.items.now) (entries context.now) }
+        requires sides_fit { Fits (within (sorts context.now) (item_sorts self.now.rules.items.now)) guides (eq_tree sides.now.0.tree sides.now.1.tree) }
+        requires guide_fits { Fits (within (OfTerm ∷ sorts context.now) (item_sorts self.now.rules.items.now)) guides guide.now }
+        requires ty_fits { Fits (within (sorts context.now) (item_sorts self.now.rules.items.now)) types ty.now }
+        requires part_fits { Fits (within (sorts context.now) (item_sorts self.now.rules.items.now)) terms part.now }
+        requires few { length (entries context.now) + max (depth ty.now) (depth part.now) ≤ 4096 }
+        ensures { Meets self.now.rules.items.now self.now.rules.budget (star_then 3 (infer (signature self.now.rules.items.now) a_type (entries context.now) ty.now)
+            (unless_deep (put 0 sides.now.0.tree guide.now) (ask_same [] (sides_differ (erased ty.now) (put 0 sides.now.0.tree guide.now)) (erased ty.now) (put 0 sides.now.0.tree guide.now)
+            (at_part 4 (infer (signature self.now.rules.items.now) a_term (entries context.now) part.now) (λ found. unless_deep (put 0 sides.now.1.tree guide.now)
+            (ask_same (4 ∷ []) (mismatch found (put 0 sides.now.1.tree guide.now)) found (put 0 sides.now.1.tree guide.now) (limited_tree (erased ty.now)))))))) result }
+    {
+        let ty = self.erased_type(3, context, ty)?;
+        self.rules.is_before(&ty, guide, sides)?;
+        self.part_is_after(sides, context, guide, part)?;
         limited(ty)
+    }
+
+    /// The type of a `rho`'s part is the guide with the equation's right side put in it.
+    #[cycle(infer)]
+    fn part_is_after(
+        &self,
+        sides: &(Side, Side),
+        context: &Context<'_>,
+        guide: &Guide,
+        part: &Term,
+    ) -> Result<(), Fault>
+        requires right { sides.now.1.class ≡ OfPure }
+        requires context { ContextFits (item_sorts self.now.rules.items.now) (entries context.now) }
+        requires right_fits { Fits (within (sorts context.now) (item_sorts self.now.rules.items.now)) pure_terms sides.now.1.tree }
+        requires guide_fits { Fits (within (OfTerm ∷ sorts context.now) (item_sorts self.now.rules.items.now)) guides guide.now }
+        requires part_fits { Fits (within (sorts context.now) (item_sorts self.now.rules.items.now)) terms part.now }
+        requires few { length (entries context.now) + depth part.now ≤ 4096 }
+        ensures { Passes self.now.rules.items.now self.now.rules.budget (λ q. at_part 4 (infer (signature self.now.rules.items.now) a_term (entries context.now) part.now)
+            (λ found. unless_deep (put 0 sides.now.1.tree guide.now)
+            (ask_same (4 ∷ []) (mismatch found (put 0 sides.now.1.tree guide.now)) found (put 0 sides.now.1.tree guide.now) q))) result }
+    {
+        let found = self.term(4, context, part)?;
+        self.rules.is_after(&found, guide, sides)
     }
 
     /// A term in place of one that is equal to it.
@@ -280,32 +352,63 @@ impl Rules<'_> {
         part: &Term,
         kept: &Pure,
     ) -> Result<Guide, Fault>
-        requires context { ContextFits (item_sorts self.now.items.now) (entries context.now) }
-        requires fits { Fits (within (sorts context.now) (item_sorts self.now.items.now)) terms (phi proof.now part.now kept.now) }
+        requires context { ContextFits (item_sorts self.now.rules.items.now) (entries context.now) }
+        requires fits { Fits (within (sorts context.now) (item_sorts self.now.rules.items.now)) terms (phi proof.now part.now kept.now) }
         requires few { length (entries context.now) + depth (phi proof.now part.now kept.now) ≤ 4096 }
-        ensures { Meets self.now.items.now self.now.budget (infer (signature self.now.items.now) a_term (entries context.now) (phi proof.now part.now kept.now)) result }
+        ensures { Meets self.now.rules.items.now self.now.rules.budget (infer (signature self.now.rules.items.now) a_term (entries context.now) (phi proof.now part.now kept.now)) result }
     {
-        let found = self.term(1, context, proof)?;
-        let (left, right) = self.sides(1, &found)?;
+        let sides = self.equation_of(1, context, proof)?;
+        self.cast_to(&sides, context, part, kept)
+    }
+
+    /// The type of the part of a `phi`, whose erasure is one side of the equation where what is kept is the other.
+    #[cycle(infer)]
+    fn cast_to(
+        &self,
+        sides: &(Side, Side),
+        context: &Context<'_>,
+        part: &Term,
+        kept: &Pure,
+    ) -> Result<Guide, Fault>
+        requires left { sides.now.0.class ≡ OfPure }
+        requires right { sides.now.1.class ≡ OfPure }
+        requires context { ContextFits (item_sorts self.now.rules.items.now) (entries context.now) }
+        requires sides_fit { Fits (within (sorts context.now) (item_sorts self.now.rules.items.now)) guides (eq_tree sides.now.0.tree sides.now.1.tree) }
+        requires part_fits { Fits (within (sorts context.now) (item_sorts self.now.rules.items.now)) terms part.now }
+        requires kept_fits { Fits (within (sorts context.now) (item_sorts self.now.rules.items.now)) pure_terms kept.now }
+        requires few { length (entries context.now) + depth part.now ≤ 4096 }
+        ensures { Meets self.now.rules.items.now self.now.rules.budget (at_part 2 (infer (signature self.now.rules.items.now) a_term (entries context.now) part.now) (λ found.
+            ask_same [] (sides_differ (eq_tree sides.now.0.tree sides.now.0.tree) (eq_tree (erased part.now) (erased part.now))) sides.now.0.tree (erased part.now)
+            (ask_same [] (sides_differ (eq_tree sides.now.1.tree sides.now.1.tree) (eq_tree kept.now kept.now)) sides.now.1.tree kept.now (limited_tree found)))) result }
+    {
         let found = self.term(2, context, part)?;
-        let part = part.erase(self.alloc)?;
-        self.same_terms(&left, &part)?;
-        self.same_terms(&right, kept)?;
+        self.rules.are_cast(sides, part, kept)?;
         limited(found)
     }
 
     /// A term of any type, by an equation of two booleans that differ.
     #[cycle(infer)]
     fn separation(&self, context: &Context<'_>, ty: &Ty, proof: &Term) -> Result<Guide, Fault>
-        requires context { ContextFits (item_sorts self.now.items.now) (entries context.now) }
-        requires fits { Fits (within (sorts context.now) (item_sorts self.now.items.now)) terms (delta ty.now proof.now) }
+        requires context { ContextFits (item_sorts self.now.rules.items.now) (entries context.now) }
+        requires fits { Fits (within (sorts context.now) (item_sorts self.now.rules.items.now)) terms (delta ty.now proof.now) }
         requires few { length (entries context.now) + depth (delta ty.now proof.now) ≤ 4096 }
-        ensures { Meets self.now.items.now self.now.budget (infer (signature self.now.items.now) a_term (entries context.now) (delta ty.now proof.now)) result }
+        ensures { Meets self.now.rules.items.now self.now.rules.budget (infer (signature self.now.rules.items.now) a_term (entries context.now) (delta ty.now proof.now)) result }
     {
-        let ty = self.star(1, context, ty)?;
-        let found = self.term(2, context, proof)?;
-        let (left, right) = self.sides(2, &found)?;
-        self.are_booleans(&left, &right)?;
+        let ty = self.erased_type(1, context, ty)?;
+        self.separates(context, proof)?;
         limited(ty)
+    }
+
+    /// The type of a `delta`'s proof is the equation of the two booleans.
+    #[cycle(infer)]
+    fn separates(&self, context: &Context<'_>, proof: &Term) -> Result<(), Fault>
+        requires context { ContextFits (item_sorts self.now.rules.items.now) (entries context.now) }
+        requires fits { Fits (within (sorts context.now) (item_sorts self.now.rules.items.now)) terms proof.now }
+        requires few { length (entries context.now) + depth proof.now ≤ 4096 }
+        ensures { Passes self.now.rules.items.now self.now.rules.budget (λ q. equation_then 2 (infer (signature self.now.rules.items.now) a_term (entries context.now) proof.now) (λ left right.
+            ask_same [] (not_booleans left right) left true_pure (ask_same [] (not_booleans left right) right false_pure q))) result }
+    {
+        let sides = self.equation_of(2, context, proof)?;
+        self.rules.are_booleans(&sides.0, &sides.1)
     }
 }

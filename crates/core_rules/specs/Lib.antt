@@ -1,0 +1,5 @@
+pub mod Reasons
+pub mod Faults
+pub mod Context
+pub mod Questions
+pub mod Formers
