@@ -232,30 +232,42 @@ impl GuideView {
     }
 
     /// Puts the part for the variable 0, and lowers the other free variables by one.
-    #[tactic(auto, using(crate::proofs::Puts::entering))]
     pub fn put_pure(&self, alloc: Global, part: &PureView) -> Result<Guide, PutStop>
         requires used { UsedAs OfTerm 0 guides self.now }
         requires below { IsBelow 4290000000 part.now }
         ensures { PutGives (put 0 part.now self.now) result }
     {
-        let part = part.whole(alloc)?;
-        match &self.node {
-            GuideNode::Written(ty) => put_written_type(alloc, ty, &Part::Pure(&part)),
-            GuideNode::Built(guide) => guide.put_pure(alloc, 0, &part),
+        if let Some(part) = part.own() {
+            return self.put(alloc, &Part::Pure(part));
         }
+        let part = part.whole(alloc)?;
+        self.put(alloc, &Part::Pure(&part))
     }
 
     /// Puts the part for the variable 0, and lowers the other free variables by one.
-    #[tactic(auto, using(crate::proofs::Puts::entering))]
     pub fn put_guide(&self, alloc: Global, part: &GuideView) -> Result<Guide, PutStop>
         requires used { UsedAs OfType 0 guides self.now }
         requires below { IsBelow 4290000000 part.now }
         ensures { PutGives (put 0 part.now self.now) result }
     {
+        if let Some(part) = part.own() {
+            return self.put(alloc, &Part::Guide(part));
+        }
         let part = part.whole(alloc)?;
+        self.put(alloc, &Part::Guide(&part))
+    }
+
+    fn put(&self, alloc: Global, part: &Part<'_>) -> Result<Guide, PutStop>
+        requires used { UsedAs (part_sort part.now) 0 guides self.now }
+        requires below { IsBelow 4290000000 (part_tree part.now) }
+        ensures { PutGives (put 0 (part_tree part.now) self.now) result }
+    {
         match &self.node {
-            GuideNode::Written(ty) => put_written_type(alloc, ty, &Part::Guide(&part)),
-            GuideNode::Built(guide) => guide.put_guide(alloc, 0, &part),
+            GuideNode::Written(ty) => put_written_type(alloc, ty, part),
+            GuideNode::Built(guide) => match part {
+                Part::Pure(part) => guide.put_pure(alloc, 0, part),
+                Part::Guide(part) => guide.put_guide(alloc, 0, part),
+            },
         }
     }
 }

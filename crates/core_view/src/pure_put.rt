@@ -1,4 +1,5 @@
 //! Putting a part for a variable of a pure term that is read. Each node that is read is read once, and the new node is made at once.
+//! In each call `from` binders that are kept stand between the node and the places that were passed, and `under` over the whole node.
 ghost use Rattle.std.specs.Prelude.{◌≡◌, ◌+◌, ◌<◌, ◌≤◌, IfOk};
 ghost use Rattle.cdle_model.specs.Classes.{UsedAs, pure_terms};
 ghost use Rattle.cdle_model.specs.Depth.{depth};
@@ -17,7 +18,7 @@ use cdle_model::NoMemory;
 use core_tree::{Pure, PureForm, PutStop, Term};
 use std::alloc::Global;
 
-/// The term's erasure, where these places were passed, with the part in the place of the variable `under`, and the variables above it lowered.
+/// The term's erasure with the part in the place of the variable `under`, and the variables above it lowered.
 pub(crate) fn put_written(
     alloc: Global,
     term: &Term,
@@ -58,7 +59,7 @@ pub(crate) fn put_written(
     }
 }
 
-/// The pure term, where these places were passed, with the part in the place of the variable `under`, and the variables above it lowered.
+/// The pure term with the part in the place of the variable `under`, and the variables above it lowered.
 pub(crate) fn put_built(
     alloc: Global,
     term: &Pure,
@@ -91,7 +92,7 @@ pub(crate) fn put_built(
     }
 }
 
-/// A variable, where these places were passed, with the part in its place where its number is `under`, and lowered where it is above.
+/// The variable, or the part in its place where its number is `under`, and lowered where it is above.
 pub(crate) fn put_variable(
     alloc: Global,
     index: u32,

@@ -218,6 +218,9 @@ impl PureView {
         requires below { IsBelow 4290000000 part.now }
         ensures { PutGives (put 0 part.now self.now) result }
     {
+        if let Some(part) = part.own() {
+            return put_node(alloc, &self.node, &self.passed, part);
+        }
         let part = part.whole(alloc)?;
         put_node(alloc, &self.node, &self.passed, &part)
     }
@@ -243,7 +246,9 @@ fn put_node(alloc: Global, node: &PureNode, passed: &Passed, part: &Pure) -> Res
             if term.depth() > 4096 {
                 return Err(PutStop::TooDeep);
             }
-            refuse_large(term, passed)?;
+            if term.is_too_large() {
+                return Err(PutStop::NoMemory);
+            }
             put_built(alloc, term, passed, 0, 0, &Part::Pure(part))
         }
         PureNode::Variable(index) => put_variable(alloc, *index, passed, 0, 0, &Part::Pure(part)),

@@ -1,4 +1,5 @@
 //! Pure terms that are read, as trees of their own nodes. Each node that is read is read once, and the new node is made at once.
+//! In each call `from` binders that are kept stand between the node and the places that were passed.
 ghost use Rattle.std.specs.Prelude.{◌≡◌, ◌+◌, ◌<◌, ◌≤◌, IfOk};
 ghost use Rattle.cdle_model.specs.Classes.{IsOf, pure_terms};
 ghost use Rattle.cdle_model.specs.Depth.{depth};
@@ -13,7 +14,7 @@ use cdle_model::NoMemory;
 use core_tree::{Pure, PureForm, Term};
 use std::alloc::{AllocError, Global};
 
-/// The term's erasure, whose variables below `from` are kept, where these places were passed outside.
+/// The term's erasure, where these places were passed.
 pub(crate) fn whole_written(
     alloc: Global,
     term: &Term,
@@ -43,7 +44,7 @@ pub(crate) fn whole_written(
     }
 }
 
-/// The pure term, whose variables below `from` are kept, where these places were passed outside.
+/// The pure term, where these places were passed.
 #[tactic(auto, using(crate::proofs::Numbers::spared))]
 pub(crate) fn whole_built(
     alloc: Global,
