@@ -1,7 +1,8 @@
 //! Reading whole files.
-ghost use Rattle.std.specs.Prelude.{◌<◌, ◌≤◌, ◌^◌, length, IfOk, IfErr};
+ghost use Rattle.std.specs.Prelude.{◌≡◌, ◌+◌, ◌<◌, ◌≤◌, ◌^◌, ◌++◌, ◌∷◌, [], length, IfOk, IfErr, OnOk};
 ghost use Rattle.cdle_model.specs.CoreText.{Says};
 ghost use Rattle.core_text.specs.File.{IsFaultOf};
+ghost use Rattle.core_text.specs.Names.{item_name};
 ghost use Rattle.core_text.specs.View.{IsPlaced};
 ghost use Rattle.core_text.specs.Scope.{known_names};
 
@@ -10,8 +11,25 @@ use crate::reader::Reader;
 use crate::scope::{CoreScope, sort_of};
 use crate::token::next;
 use crate::words::head_of;
-use core_tree::{CoreFile, CoreItems};
+use cdle_model::NoMemory;
+use core_tree::{CoreFile, CoreItem, CoreItems};
 use std::alloc::Global;
+
+/// Puts an item behind the earlier ones of its file, and its name behind theirs.
+fn keep(
+    alloc: Global,
+    own: &mut CoreScope,
+    items: &mut Vec<CoreItem>,
+    item: CoreItem,
+) -> Result<(), NoMemory>
+    requires { length (known_names own.old) + 1 < 2 ^ 32 }
+    ensures named { OnOk result (known_names own.new ≡ item_name item ∷ known_names own.old) }
+    ensures kept { OnOk result (items.new.items ≡ items.old.items ++ item ∷ []) }
+{
+    own.push(alloc, item.name().as_str().as_bytes(), sort_of(&item))?;
+    items.push(item)?;
+    Ok(())
+}
 
 /// The items of a file behind those of earlier files, or its first fault. A file says at most one list of items, and none where it has a
 /// fault.
@@ -39,8 +57,7 @@ pub fn read_core(alloc: Global, bytes: &[u8], known: &CoreScope) -> Result<CoreF
             known: &*known,
         };
         let (item, after) = reader.item(at)?;
-        own.push(alloc, item.name().as_str().as_bytes(), sort_of(&item))?;
-        items.push(item)?;
+        keep(alloc, &mut own, &mut items, item)?;
         at = after;
     }
     Ok(CoreFile {

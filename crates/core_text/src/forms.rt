@@ -45,12 +45,10 @@ fn kind_form(word: &[u8]) -> Option<Form>
     ensures value { result ≡ form_of class.Kind word.now }
     ensures class { IfSome result (λ f. class_of_form f ≡ class.Kind) }
 {
-    if word == b"kpi".as_slice() {
-        Some(Form::Kpi)
-    } else if word == b"kpit".as_slice() {
-        Some(Form::Kpit)
-    } else {
-        None
+    match word {
+        b"kpi" => Some(Form::Kpi),
+        b"kpit" => Some(Form::Kpit),
+        _ => None,
     }
 }
 
@@ -58,26 +56,17 @@ fn ty_form(word: &[u8]) -> Option<Form>
     ensures value { result ≡ form_of class.Ty word.now }
     ensures class { IfSome result (λ f. class_of_form f ≡ class.Ty) }
 {
-    if word == b"pi".as_slice() {
-        Some(Form::Pi)
-    } else if word == b"all".as_slice() {
-        Some(Form::All)
-    } else if word == b"allt".as_slice() {
-        Some(Form::Allt)
-    } else if word == b"tlam".as_slice() {
-        Some(Form::Tlam)
-    } else if word == b"xtlam".as_slice() {
-        Some(Form::Xtlam)
-    } else if word == b"at".as_slice() {
-        Some(Form::At)
-    } else if word == b"on".as_slice() {
-        Some(Form::On)
-    } else if word == b"iota".as_slice() {
-        Some(Form::Iota)
-    } else if word == b"eq".as_slice() {
-        Some(Form::Eq)
-    } else {
-        None
+    match word {
+        b"pi" => Some(Form::Pi),
+        b"all" => Some(Form::All),
+        b"allt" => Some(Form::Allt),
+        b"tlam" => Some(Form::Tlam),
+        b"xtlam" => Some(Form::Xtlam),
+        b"at" => Some(Form::At),
+        b"on" => Some(Form::On),
+        b"iota" => Some(Form::Iota),
+        b"eq" => Some(Form::Eq),
+        _ => None,
     }
 }
 
@@ -85,34 +74,21 @@ fn term_form(word: &[u8]) -> Option<Form>
     ensures value { result ≡ form_of class.Term word.now }
     ensures class { IfSome result (λ f. class_of_form f ≡ class.Term) }
 {
-    if word == b"lam".as_slice() {
-        Some(Form::Lam)
-    } else if word == b"elam".as_slice() {
-        Some(Form::Elam)
-    } else if word == b"xlam".as_slice() {
-        Some(Form::Xlam)
-    } else if word == b"app".as_slice() {
-        Some(Form::App)
-    } else if word == b"eapp".as_slice() {
-        Some(Form::Eapp)
-    } else if word == b"tapp".as_slice() {
-        Some(Form::Tapp)
-    } else if word == b"pair".as_slice() {
-        Some(Form::Pair)
-    } else if word == b"fst".as_slice() {
-        Some(Form::Fst)
-    } else if word == b"snd".as_slice() {
-        Some(Form::Snd)
-    } else if word == b"beta".as_slice() {
-        Some(Form::Beta)
-    } else if word == b"rho".as_slice() {
-        Some(Form::Rho)
-    } else if word == b"phi".as_slice() {
-        Some(Form::Phi)
-    } else if word == b"delta".as_slice() {
-        Some(Form::Delta)
-    } else {
-        None
+    match word {
+        b"lam" => Some(Form::Lam),
+        b"elam" => Some(Form::Elam),
+        b"xlam" => Some(Form::Xlam),
+        b"app" => Some(Form::App),
+        b"eapp" => Some(Form::Eapp),
+        b"tapp" => Some(Form::Tapp),
+        b"pair" => Some(Form::Pair),
+        b"fst" => Some(Form::Fst),
+        b"snd" => Some(Form::Snd),
+        b"beta" => Some(Form::Beta),
+        b"rho" => Some(Form::Rho),
+        b"phi" => Some(Form::Phi),
+        b"delta" => Some(Form::Delta),
+        _ => None,
     }
 }
 
@@ -120,12 +96,10 @@ fn pure_form(word: &[u8]) -> Option<Form>
     ensures value { result ≡ form_of class.Pure word.now }
     ensures class { IfSome result (λ f. class_of_form f ≡ class.Pure) }
 {
-    if word == b"fn".as_slice() {
-        Some(Form::Function)
-    } else if word == b"ap".as_slice() {
-        Some(Form::Ap)
-    } else {
-        None
+    match word {
+        b"fn" => Some(Form::Function),
+        b"ap" => Some(Form::Ap),
+        _ => None,
     }
 }
 
@@ -133,26 +107,17 @@ fn guide_form(word: &[u8]) -> Option<Form>
     ensures value { result ≡ form_of class.Guide word.now }
     ensures class { IfSome result (λ f. class_of_form f ≡ class.Guide) }
 {
-    if word == b"pi".as_slice() {
-        Some(Form::GuidePi)
-    } else if word == b"all".as_slice() {
-        Some(Form::GuideAll)
-    } else if word == b"allt".as_slice() {
-        Some(Form::GuideAllt)
-    } else if word == b"tlam".as_slice() {
-        Some(Form::GuideTlam)
-    } else if word == b"xtlam".as_slice() {
-        Some(Form::GuideXtlam)
-    } else if word == b"at".as_slice() {
-        Some(Form::GuideAt)
-    } else if word == b"on".as_slice() {
-        Some(Form::GuideOn)
-    } else if word == b"iota".as_slice() {
-        Some(Form::GuideIota)
-    } else if word == b"eq".as_slice() {
-        Some(Form::GuideEq)
-    } else {
-        None
+    match word {
+        b"pi" => Some(Form::GuidePi),
+        b"all" => Some(Form::GuideAll),
+        b"allt" => Some(Form::GuideAllt),
+        b"tlam" => Some(Form::GuideTlam),
+        b"xtlam" => Some(Form::GuideXtlam),
+        b"at" => Some(Form::GuideAt),
+        b"on" => Some(Form::GuideOn),
+        b"iota" => Some(Form::GuideIota),
+        b"eq" => Some(Form::GuideEq),
+        _ => None,
     }
 }
 
@@ -160,12 +125,10 @@ fn guide_kind_form(word: &[u8]) -> Option<Form>
     ensures value { result ≡ form_of class.GuideKind word.now }
     ensures class { IfSome result (λ f. class_of_form f ≡ class.GuideKind) }
 {
-    if word == b"kpi".as_slice() {
-        Some(Form::GuideKpi)
-    } else if word == b"kpit".as_slice() {
-        Some(Form::GuideKpit)
-    } else {
-        None
+    match word {
+        b"kpi" => Some(Form::GuideKpi),
+        b"kpit" => Some(Form::GuideKpit),
+        _ => None,
     }
 }
 

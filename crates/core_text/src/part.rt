@@ -77,6 +77,36 @@ impl Part {
         }
     }
 
+    pub(crate) fn into_kind(self) -> Kind
+        requires { class_of self ≡ class.Kind }
+        ensures { part_tree self ≡ result }
+    {
+        match self {
+            Part::Kind(kind) => kind,
+            _ => unreachable!(),
+        }
+    }
+
+    pub(crate) fn into_ty(self) -> Ty
+        requires { class_of self ≡ class.Ty }
+        ensures { part_tree self ≡ result }
+    {
+        match self {
+            Part::Ty(ty) => ty,
+            _ => unreachable!(),
+        }
+    }
+
+    pub(crate) fn into_term(self) -> Term
+        requires { class_of self ≡ class.Term }
+        ensures { part_tree self ≡ result }
+    {
+        match self {
+            Part::Term(term) => term,
+            _ => unreachable!(),
+        }
+    }
+
     pub(crate) fn as_kind(&self) -> &Kind
         requires { class_of self.now ≡ class.Kind }
         ensures { part_tree self.now ≡ result.now }

@@ -9,6 +9,8 @@ ghost use Rattle.core_tree.specs.Items.{written};
 ghost use Rattle.core_text.specs.View.{rest, Advances, Gives, IsAt, IsPlaced};
 ghost use Rattle.core_text.specs.Parts.{part_tree, class_of};
 ghost use Rattle.core_text.specs.Scope.{binder_name, names, known_names, scope_of};
+ghost use Rattle.core_text.specs.declared.binders.Binders.{Outermost};
+ghost use Rattle.cdle_model.specs.declared.grammar.Class.TheVariants as class;
 
 use crate::binders::{Binders, find};
 use crate::build::build;
@@ -19,7 +21,7 @@ use crate::scope::CoreScope;
 use crate::token::{Lexeme, next};
 use crate::words::{bad, close_of, form_word, name_of, open_of, sort_of, too_deep};
 use cdle_model::{Class, Piece, Sort, Text};
-use core_tree::CoreItem;
+use core_tree::{CoreItem, Kind, Term, Ty};
 use std::alloc::Global;
 
 /// How many parentheses may open inside an item's own.
@@ -200,6 +202,51 @@ impl<'a> Reader<'a> {
         Ok((build(self.alloc, form, &parts)?, at))
     }
 
+    /// The kind of an item.
+    fn kind_at(&self, from: usize) -> Result<(Kind, usize), CoreTextFault>
+        requires utf8 { IsUtf8 self.now.bytes.now }
+        requires start { IsCharBoundary self.now.bytes.now from }
+        requires short { length self.now.bytes.now < 2 ^ 32 }
+        requires counted { length (known_names self.now.own.now) + length (known_names self.now.known.now) < 2 ^ 32 }
+        ensures gives { Gives (λ x. (x.0, rest self.now.bytes.now x.1)) result
+            (part_at (length self.now.bytes.now) 1023 (scope_of Outermost self.now.own.now self.now.known.now) class.Kind (rest self.now.bytes.now from)) }
+        ensures advances { IfOk result (λ x. Advances self.now.bytes.now from x.1) }
+        ensures placed { IfErr result (IsPlaced self.now.bytes.now) }
+    {
+        let (part, at) = self.part(INSIDE_ITEM, &Binders::Outermost, Class::Kind, from)?;
+        Ok((part.into_kind(), at))
+    }
+
+    /// A type of an item.
+    fn type_at(&self, from: usize) -> Result<(Ty, usize), CoreTextFault>
+        requires utf8 { IsUtf8 self.now.bytes.now }
+        requires start { IsCharBoundary self.now.bytes.now from }
+        requires short { length self.now.bytes.now < 2 ^ 32 }
+        requires counted { length (known_names self.now.own.now) + length (known_names self.now.known.now) < 2 ^ 32 }
+        ensures gives { Gives (λ x. (x.0, rest self.now.bytes.now x.1)) result
+            (part_at (length self.now.bytes.now) 1023 (scope_of Outermost self.now.own.now self.now.known.now) class.Ty (rest self.now.bytes.now from)) }
+        ensures advances { IfOk result (λ x. Advances self.now.bytes.now from x.1) }
+        ensures placed { IfErr result (IsPlaced self.now.bytes.now) }
+    {
+        let (part, at) = self.part(INSIDE_ITEM, &Binders::Outermost, Class::Ty, from)?;
+        Ok((part.into_ty(), at))
+    }
+
+    /// The term of an item.
+    fn term_at(&self, from: usize) -> Result<(Term, usize), CoreTextFault>
+        requires utf8 { IsUtf8 self.now.bytes.now }
+        requires start { IsCharBoundary self.now.bytes.now from }
+        requires short { length self.now.bytes.now < 2 ^ 32 }
+        requires counted { length (known_names self.now.own.now) + length (known_names self.now.known.now) < 2 ^ 32 }
+        ensures gives { Gives (λ x. (x.0, rest self.now.bytes.now x.1)) result
+            (part_at (length self.now.bytes.now) 1023 (scope_of Outermost self.now.own.now self.now.known.now) class.Term (rest self.now.bytes.now from)) }
+        ensures advances { IfOk result (λ x. Advances self.now.bytes.now from x.1) }
+        ensures placed { IfErr result (IsPlaced self.now.bytes.now) }
+    {
+        let (part, at) = self.part(INSIDE_ITEM, &Binders::Outermost, Class::Term, from)?;
+        Ok((part.into_term(), at))
+    }
+
     /// The text of a name.
     fn text_of(&self, name: &[u8]) -> Result<Text, CoreTextFault>
         requires { IsUtf8 name.now }
@@ -223,12 +270,10 @@ impl<'a> Reader<'a> {
         ensures advances { IfOk result (λ x. Advances self.now.bytes.now from x.1) }
         ensures placed { IfErr result (IsPlaced self.now.bytes.now) }
     {
-        let (ty, at) = self.part(INSIDE_ITEM, &Binders::Outermost, Class::Ty, from)?;
-        let (body, at) = self.part(INSIDE_ITEM, &Binders::Outermost, Class::Term, at)?;
+        let (ty, at) = self.type_at(from)?;
+        let (body, at) = self.term_at(at)?;
         let at = close_of(self.bytes, INSIDE_ITEM, at)?;
         let name = self.text_of(name)?;
-        let ty = ty.as_ty().clone()?;
-        let body = body.as_term().clone()?;
         Ok((CoreItem::Def { name, ty, body }, at))
     }
 
@@ -244,12 +289,10 @@ impl<'a> Reader<'a> {
         ensures advances { IfOk result (λ x. Advances self.now.bytes.now from x.1) }
         ensures placed { IfErr result (IsPlaced self.now.bytes.now) }
     {
-        let (kind, at) = self.part(INSIDE_ITEM, &Binders::Outermost, Class::Kind, from)?;
-        let (body, at) = self.part(INSIDE_ITEM, &Binders::Outermost, Class::Ty, at)?;
+        let (kind, at) = self.kind_at(from)?;
+        let (body, at) = self.type_at(at)?;
         let at = close_of(self.bytes, INSIDE_ITEM, at)?;
         let name = self.text_of(name)?;
-        let kind = kind.as_kind().clone()?;
-        let body = body.as_ty().clone()?;
         Ok((CoreItem::TypeDef { name, kind, body }, at))
     }
 

@@ -1,6 +1,6 @@
 //! Texts with what the reader answers, worked out by hand, and each form cut short behind each of its parts.
 use crate::forms::{ROWS, Row, Want, around, leaf, other, wanted};
-use crate::{counted, read_behind, read_third};
+use crate::rows::{counted, read_behind, read_third};
 use core_text::{CoreTextFault, CoreWanted};
 use core_tree::{CoreFile, CoreItem, Ty, TyForm};
 use std::alloc::{AllocError, Global};

@@ -1,5 +1,4 @@
-use Rattle.std.proofs.Common.{◌∙◌, ◌++◌, ◌∷◌, ℕ, List, arith, ap₂}
-use Rattle.cdle_model.specs.declared.grammar.Sort.{Sort}
+use Rattle.std.proofs.Common.{◌++◌, arith}
 use Rattle.std.proofs.lemmas.List.{length-append}
 use Rattle.std.proofs.lemmas.Result.{err_from_is_err_and}
 use Rattle.core_tree.specs.Items.{all_written}
@@ -22,11 +21,10 @@ returns-in_err-item-clause-err c =
 pub items-preserved : goal.items-preserved
 items-preserved c = record {
   boundary = c.in_ok-item.ensures.advances.boundary;
-  counted = rw c.in_ok-push.ensures.pushed (omega (arith, c.items.invariant.counted, c.in_ok-item.ensures.advances.ahead));
-  few = rw c.in_ok-push-2.ensures.items (simp length-append (omega (arith, c.items.invariant.few, c.in_ok-item.ensures.advances.ahead)));
-  upto = upto_more c.args.bytes.now (known_names c.args.known.now) c.items.items.items c.push-in-items.new.self.items (known_names c.items.own) (known_names c.push.new.self) (rest c.args.bytes.now c.items.at) (rest c.args.bytes.now c.in_ok-item.after) c.in_ok-item.item
-      c.items.invariant.upto c.in_ok-item.ensures.gives c.in_ok-push-2.ensures.items
-      (c.in_ok-push.ensures.pushed ∙ ap₂ (λ (x : List ℕ) (s : Sort). record { text = x; sort = s } ∷ known_names c.items.own) (c.as_bytes.ensures.value ∙ c.as_str.ensures ∙ c.name.ensures) c.sort_of.ensures);
+  counted = rw c.in_ok-keep.ensures.named (omega (arith, c.items.invariant.counted, c.in_ok-item.ensures.advances.ahead));
+  few = rw c.in_ok-keep.ensures.kept (simp length-append (omega (arith, c.items.invariant.few, c.in_ok-item.ensures.advances.ahead)));
+  upto = upto_more c.args.bytes.now (known_names c.args.known.now) c.items.items.items c.keep.new.items.items (known_names c.items.own) (known_names c.keep.new.own) (rest c.args.bytes.now c.items.at) (rest c.args.bytes.now c.in_ok-item.after) c.in_ok-item.item
+      c.items.invariant.upto c.in_ok-item.ensures.gives c.in_ok-keep.ensures.kept c.in_ok-keep.ensures.named;
 }
 
 pub returns-clause-ok : goal.returns-clause-ok
