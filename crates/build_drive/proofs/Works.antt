@@ -1,22 +1,26 @@
 -- From file to file.
-use Rattle.std.proofs.Common.{◌≡◌, ◌∙◌, ◌+◌, ◌≤◌, ◌++◌, ℕ, List, [], ◌∷◌, Option, Some, None, IfSome, MatchOption, length, refl, sym, ap, subst, arith}
+use Rattle.std.proofs.Common.{◌≡◌, ◌∙◌, ◌+◌, ◌≤◌, ◌++◌, ℕ, List, [], ◌∷◌, Option, Some, None, IfSome, MatchOption, length, length-append, refl, sym, ap, subst, arith}
 use Rattle.cdle_folder.specs.Causes.{Rose}
 use Rattle.cdle_folder.specs.Files.{Bytes, Files, Reads, IsLonger, with_read}
 use Rattle.cdle_folder.specs.States.{FolderState}
 use Rattle.cdle_folder.specs.declared.outside.ReadStop.{ReadStop}
 use Rattle.cdle_folder.specs.declared.outside.ReadStop.TheVariants as reads
-use Rattle.cdle_model.specs.CoreNames.{Name}
+use Rattle.cdle_model.specs.Classes.{AreScoped}
+use Rattle.cdle_model.specs.CoreNames.{Name, with_items}
 use Rattle.cdle_model.specs.CoreText.{Says}
 use Rattle.cdle_model.specs.Forms.{Written}
+use Rattle.core_check.specs.Items.{items_of}
+use Rattle.core_text.specs.Scope.{known_names}
 use Rattle.build_drive.specs.Answers.{IsOutcome, IsStopped, most_items, names_of}
 use Rattle.build_drive.specs.Calls.{IsReported, IsWork}
 use Rattle.build_drive.specs.Sights.{Saw, Sight, Visit, absent, contents, every, last, most_bytes, too_long, unread}
-use Rattle.build_drive.specs.Works.{EndsAt, EndsEarly, EndsIn, HasCome, sight_of_stop}
+use Rattle.build_drive.specs.Works.{EndsAt, EndsEarly, EndsIn, HasCome, IsInStep, sight_of_stop}
 use Rattle.build_drive.specs.declared.done.Done.{Done}
 use Rattle.build_drive.specs.declared.done.Stop.{Stop}
 use Rattle.build_drive.specs.declared.done.Stop.TheVariants as stops
 use Rattle.build_drive.specs.declared.outcome.Outcome.{Outcome}
-use Rattle.build_drive.proofs.Items.{names-length}
+use Rattle.build_drive.specs.declared.reading.Reading.{Reading}
+use Rattle.build_drive.proofs.Items.{names-append, names-length, over-append, said-over}
 
 -- one visit is a part of the other, up to its end
 pub record IsTail (u v : Visit) : Type 0 where
@@ -53,6 +57,17 @@ refused_at v file known reads.TooLong d o k e report h = (too_long file, (refl, 
 refused_at v file known reads.NoMemory d o k e report h = absurd h
 
 -- ---- from file to file
+
+-- one more file, of items over the others
+pub one_more : (old new : Reading) (ws : List Written) → IsInStep old → items_of new.files.items ≡ items_of old.files.items ++ ws → known_names new.known ≡ with_items ws (known_names old.known)
+    → new.items ≡ old.items + length ws → (bytes : Bytes) × Says bytes (known_names old.known) ws × (length (known_names old.known) + length ws ≤ most_items) → IsInStep new
+one_more old new ws s items known counted read =
+    let es : List Written = items_of old.files.items in record {
+      known = known ∙ ap (with_items ws) s.known ∙ sym (names-append es ws []) ∙ ap names_of (sym items);
+      counted = omega (arith, counted, s.counted, ap length items, length-append es ws);
+      few = omega (arith, read.2, ap length s.known, names-length es [], ap length items, length-append es ws);
+      over = subst AreScoped (sym items) (over-append [] es ws s.over (said-over read.0 es ws (subst (λ (k : List Name). Says read.0 k ws) s.known read.1)));
+    }
 
 same_given : (u v : Visit) → IsTail u v → v.after.given ≡ u.after.given
 same_given u v t = sym (ap (λ (w : FolderState). w.given) t.after)

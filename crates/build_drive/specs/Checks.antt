@@ -7,6 +7,8 @@ use Rattle.cdle_model.specs.Forms.{Written, name_of}
 use Rattle.cdle_model.specs.HeadForms.{deep}
 use Rattle.cdle_model.specs.declared.grammar.Count.TheVariants.{Depth}
 use Rattle.core_check.specs.Reasons.{IsWhy}
+use Rattle.core_tree.specs.declared.faults.CoreFault.{CoreFault}
+use Rattle.core_tree.specs.declared.faults.CoreFault.TheVariants as fault
 use Rattle.build_drive.specs.declared.outcome.Outcome.{Outcome}
 use Rattle.build_drive.specs.declared.outcome.Outcome.TheVariants as outcome
 use Rattle.build_drive.specs.declared.outcome.Reason.TheVariants.{Core, Duplicate}
@@ -16,6 +18,14 @@ use Rattle.build_drive.specs.declared.outcome.Spot.TheVariants.{CoreSpot}
 -- the name of an item, by its number over all files
 abbrev pub IsItemName : List Written → ℕ → Bytes → Type 0
 IsItemName ws i name = (w : Written) × (slice_get ws i ≡ Some w) × (name ≡ name_of w)
+
+-- the name of the item at which the check stopped
+abbrev pub IsNameAt : List Written → CoreFault → Bytes → Type 0
+IsNameAt ws (fault.Refused i path why) name = IsItemName ws i name
+IsNameAt ws (fault.Duplicate i earlier) name = IsItemName ws i name
+IsNameAt ws (fault.Undecided i path) name = IsItemName ws i name
+IsNameAt ws (fault.TooDeep i) name = IsItemName ws i name
+IsNameAt ws fault.NoMemory name = ⊥
 
 -- a place in the item of that number
 abbrev pub IsSpot : List Written → ℕ → List ℕ → Spot → Type 0

@@ -3,15 +3,26 @@ use Rattle.std.specs.Prelude.{◌≡◌, ◌+◌, ◌≤◌, List, [], ◌∷◌
 use Rattle.cdle_folder.specs.Files.{Bytes, Reads, with_read}
 use Rattle.cdle_folder.specs.declared.outside.ReadStop.{ReadStop}
 use Rattle.cdle_folder.specs.declared.outside.ReadStop.TheVariants as stop
+use Rattle.cdle_model.specs.Classes.{AreScoped}
 use Rattle.cdle_model.specs.CoreNames.{Name}
 use Rattle.cdle_model.specs.CoreText.{Says}
 use Rattle.cdle_model.specs.Forms.{Written}
+use Rattle.core_check.specs.Items.{items_of}
+use Rattle.core_text.specs.Scope.{known_names}
 use Rattle.build_drive.specs.Sights.{Visit, Sight, absent, too_long, unread, Saw, most_bytes, text_seen}
-use Rattle.build_drive.specs.Answers.{IsEnd, IsOutcome, IsStopped, most_items}
+use Rattle.build_drive.specs.Answers.{IsEnd, IsOutcome, IsStopped, most_items, names_of}
 use Rattle.build_drive.specs.Calls.{IsReported, IsWork}
 use Rattle.build_drive.specs.declared.done.Stop.{Stop}
 use Rattle.build_drive.specs.declared.done.Stop.TheVariants as stops
 use Rattle.build_drive.specs.declared.outcome.Outcome.{Outcome}
+use Rattle.build_drive.specs.declared.reading.Reading.{Reading}
+
+-- the files that were read, the names that are known and the number speak of the same items, each over the earlier ones
+pub record IsInStep (r : Reading) : Type 0 where
+  pub known : known_names r.known ≡ names_of (items_of r.files.items)
+  pub counted : r.items ≡ length (items_of r.files.items)
+  pub few : length (items_of r.files.items) ≤ most_items
+  pub over : AreScoped (items_of r.files.items)
 
 -- what is seen where a file is not read; nothing where memory ran out
 abbrev pub sight_of_stop : Bytes → ReadStop → Option Sight

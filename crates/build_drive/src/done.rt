@@ -24,8 +24,16 @@ impl Done {
         ensures outcome { IfOk result (λ done. done.outcome ≡ outcome) }
         ensures report { IfOk result (IsReported text.now) }
     {
-        let report = report(alloc, &outcome, text)?.into_bytes();
-        Ok(Done { outcome, report })
+        match report(alloc, &outcome, text) {
+            Ok(report) => Ok(Done {
+                outcome,
+                report: report.into_bytes(),
+            }),
+            Err(wanted) => {
+                drop(outcome);
+                Err(wanted)
+            }
+        }
     }
 
     /// That memory was wanted. Saying so takes none.

@@ -1,5 +1,5 @@
 //! Calls over folders in memory, whose reports were written down by hand.
-use crate::core_command;
+use build_drive::core_command;
 use cdle_folder::{Folder, MemoryFolder, SureFolder};
 use std::alloc::Global;
 use std::test::Fail;
