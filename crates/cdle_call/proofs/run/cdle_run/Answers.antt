@@ -1,7 +1,7 @@
 use Rattle.build_drive.specs.Sights.{Visit}
-use Rattle.cdle.specs.Run.{Output}
-use Rattle.cdle.proofs.Ends.{accepted_end, complete_end, exact_end, refused_end, undecided_end, usage_end}
-use Rattle.cdle.proofs.run.cdle_run.Goals as goal
+use Rattle.cdle_call.specs.Run.{Output}
+use Rattle.cdle_call.proofs.Ends.{accepted_end, complete_end, exact_end, refused_end, undecided_end, usage_end}
+use Rattle.cdle_call.proofs.run.cdle_run.Goals as goal
 
 pub returns-clause-usage : goal.returns-clause-usage
 returns-clause-usage g c =

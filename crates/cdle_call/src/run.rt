@@ -11,8 +11,8 @@ ghost use Rattle.build_drive.specs.declared.outcome.Outcome.{Outcome as OutcomeO
 ghost use Rattle.build_drive.specs.declared.outcome.Outcome.TheVariants.{NoMemory as Wanted, Ok as Accepted, Refused as Rejected, Undecided as Unsettled, Usage as NoCommand};
 ghost use Rattle.build_drive.specs.declared.outcome.Reason.{Reason as ReasonOf};
 ghost use Rattle.build_drive.specs.declared.outcome.Spot.{Spot as SpotOf};
-ghost use Rattle.cdle.specs.Run.{Ends, IsRun, told};
-ghost use Rattle.cdle.specs.Work.{IsAccepted, IsDetermined, IsRefused, IsSpent, IsWanting, IsWork};
+ghost use Rattle.cdle_call.specs.Run.{Ends, IsRun, told};
+ghost use Rattle.cdle_call.specs.Work.{IsAccepted, IsDetermined, IsRefused, IsSpent, IsWanting, IsWork};
 
 use build_drive::{Done, Outcome, core_command};
 use cdle_folder::{Folder, Sink};
@@ -102,22 +102,25 @@ fn usage(alloc: Global) -> Done
     }
 }
 
-/// Puts the report. That memory is wanting is said without any.
+/// Puts the report; the outcome stands where that is done.
 fn put_report<S: Sink>(done: Done, out: &mut S) -> Outcome
     ensures { Ends (record { before = S.state out.old; after = S.state out.new }) (told done.outcome done.report.items) done.outcome result }
 {
-    match done.outcome {
-        Outcome::NoMemory => put(Outcome::NoMemory, b"out of memory\n", out),
-        outcome => put(outcome, &done.report, out),
+    match out.put(bytes_of(&done)) {
+        Ok(()) => done.outcome,
+        Err(_) => {
+            drop(done);
+            Outcome::WriteFault { file: None }
+        }
     }
 }
 
-/// Puts these bytes; the outcome stands where that is done.
-fn put<S: Sink>(outcome: Outcome, report: &[u8], out: &mut S) -> Outcome
-    ensures { Ends (record { before = S.state out.old; after = S.state out.new }) report.now outcome result }
+/// The bytes that are put. That memory is wanting is said without any.
+fn bytes_of(done: &Done) -> &[u8]
+    ensures { result.now ≡ told done.now.outcome done.now.report.items }
 {
-    match out.put(report) {
-        Ok(()) => outcome,
-        Err(_) => Outcome::WriteFault { file: None },
+    match &done.outcome {
+        Outcome::NoMemory => b"out of memory\n",
+        _ => &done.report,
     }
 }

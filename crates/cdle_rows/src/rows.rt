@@ -1,5 +1,5 @@
 //! The worked calls of `core` over folders in memory, whose reports and statuses were written down by hand.
-use crate::{Exit, Outcome, cdle_run};
+use cdle_call::{Exit, Outcome, cdle_run};
 use cdle_folder::{Folder, MemoryFolder, MemorySink, SureFolder};
 use std::alloc::Global;
 use std::test::Fail;

@@ -9,7 +9,7 @@ use Rattle.build_drive.specs.Sights.{Visit}
 use Rattle.build_drive.specs.declared.done.Done.{Done}
 use Rattle.build_drive.specs.declared.outcome.Outcome.{Outcome}
 use Rattle.build_drive.specs.declared.outcome.Outcome.TheVariants as outcome
-use Rattle.cdle.specs.Work.{IsWork}
+use Rattle.cdle_call.specs.Work.{IsWork}
 
 -- the sink before the call and after it
 pub record Output : Type 0 where

@@ -17,7 +17,7 @@ use Rattle.build_drive.specs.declared.outcome.Reason.{Reason}
 use Rattle.build_drive.specs.declared.outcome.Spot.{Spot}
 use Rattle.build_drive.proofs.Calls as calls
 use Rattle.build_drive.proofs.Theorem as theorem
-use Rattle.cdle.specs.Work.{IsAccepted, IsDetermined, IsRefused, IsSpent, IsWork}
+use Rattle.cdle_call.specs.Work.{IsAccepted, IsDetermined, IsRefused, IsSpent, IsWork}
 
 -- ---- usage is no outcome of a command
 

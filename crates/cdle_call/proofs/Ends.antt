@@ -12,9 +12,9 @@ use Rattle.build_drive.specs.declared.outcome.Outcome.{Outcome}
 use Rattle.build_drive.specs.declared.outcome.Outcome.TheVariants as outcome
 use Rattle.build_drive.specs.declared.outcome.Reason.{Reason}
 use Rattle.build_drive.specs.declared.outcome.Spot.{Spot}
-use Rattle.cdle.specs.Run.{Ends, IsRun, Output}
-use Rattle.cdle.specs.Work.{IsAccepted, IsDetermined, IsRefused, IsSpent}
-use Rattle.cdle.proofs.Works.{accepted_work, complete_work, exact_work, refused_work, undecided_work, usage_work}
+use Rattle.cdle_call.specs.Run.{Ends, IsRun, Output}
+use Rattle.cdle_call.specs.Work.{IsAccepted, IsDetermined, IsRefused, IsSpent}
+use Rattle.cdle_call.proofs.Works.{accepted_work, complete_work, exact_work, refused_work, undecided_work, usage_work}
 
 -- the work has it, and not the putting of its report
 abbrev IsOfWork : Outcome → Type 0
