@@ -6,7 +6,7 @@ ghost use Rattle.core_check.specs.Answer.{IsFaultOf};
 ghost use Rattle.core_check.specs.Items.{items_of};
 ghost use Rattle.build_drive.specs.Answers.{most_items};
 ghost use Rattle.build_drive.specs.Calls.{IsReported};
-ghost use Rattle.build_drive.specs.Checks.{IsItemName, IsNameAt, IsVerdict};
+ghost use Rattle.build_drive.specs.Checks.{IsItemName, IsNameAt, IsVerdictAtSomeBudget};
 ghost use Rattle.build_drive.specs.Reports.{IsShown};
 
 use crate::done::Done;
@@ -20,7 +20,7 @@ use std::alloc::Global;
 pub(crate) fn checked(alloc: Global, files: &Vec<CoreFile>, budget: u64) -> Result<Done, NoMemory>
     requires items { AreScoped (items_of files.now.items) }
     requires few { length (items_of files.now.items) ≤ most_items }
-    ensures verdict { IfOk result (λ done. IsVerdict budget (items_of files.now.items) done.outcome) }
+    ensures verdict { IfOk result (λ done. IsVerdictAtSomeBudget budget (items_of files.now.items) done.outcome) }
     ensures report { IfOk result (IsReported []) }
 {
     let outcome = match check_files(alloc, files, budget) {
@@ -42,7 +42,7 @@ fn refused(
 ) -> Result<Outcome, NoMemory>
     requires items { AreScoped (items_of files.now.items) }
     requires fault { IsFaultOf budget (items_of files.now.items) fault }
-    ensures verdict { IfOk result (IsVerdict budget (items_of files.now.items)) }
+    ensures verdict { IfOk result (IsVerdictAtSomeBudget budget (items_of files.now.items)) }
     ensures shown { IfOk result (IsShown []) }
 {
     match name_at(alloc, files, budget, &fault) {
@@ -75,7 +75,7 @@ fn name_at(
 
 /// The outcome of a fault in the item of that name.
 fn outcome_at(alloc: Global, item: Text, budget: u64, fault: CoreFault) -> Outcome
-    ensures verdict { (ws : List Written) → AreScoped ws → IsFaultOf budget ws fault → IsNameAt ws fault item → IsVerdict budget ws result }
+    ensures verdict { (ws : List Written) → AreScoped ws → IsFaultOf budget ws fault → IsNameAt ws fault item → IsVerdictAtSomeBudget budget ws result }
     ensures shown { IsShown [] result }
 {
     match fault {

@@ -9,10 +9,10 @@ ghost use Rattle.core_check.specs.Items.{items_of};
 ghost use Rattle.core_text.specs.File.{IsFaultOf};
 ghost use Rattle.core_text.specs.Scope.{known_names};
 ghost use Rattle.core_text.specs.View.{IsPlaced};
-ghost use Rattle.build_drive.specs.Answers.{IsEnd, IsStopped, most_items, names_of};
-ghost use Rattle.build_drive.specs.Checks.{IsVerdict};
+ghost use Rattle.build_drive.specs.Answers.{IsEnd, IsStopped, most_items, item_names};
+ghost use Rattle.build_drive.specs.Checks.{IsVerdictAtSomeBudget};
 ghost use Rattle.build_drive.specs.Reports.{IsShown};
-ghost use Rattle.build_drive.specs.Works.{EndsAt, EndsEarly, EndsIn, HasCome, IsInStep, IsRead, sight_of_stop};
+ghost use Rattle.build_drive.specs.Progress.{EndsAt, EndsEarly, EndsIn, HasCome, IsInStep, IsRead, trace_of_stop};
 
 use crate::done::{Done, Stop};
 use crate::outcome::{Badness, Outcome};
@@ -45,8 +45,8 @@ pub(crate) fn read_files<F: Folder>(
     ensures files { (F.state folder.new).files ≡ (F.state folder.old).files }
     ensures items { IfOk result (λ read. AreScoped (items_of read.items)) }
     ensures few { IfOk result (λ read. length (items_of read.items) ≤ most_items) }
-    ensures read { IfOk result (λ read. (n : ℕ) → HasCome (IsVerdict n) (record { before = F.state folder.old; after = F.state folder.new }) (map string_bytes files.now.items) (F.state folder.new).given (items_of read.items) []) }
-    ensures ended { IfErr result (λ stop. (n : ℕ) → EndsEarly (IsVerdict n) (record { before = F.state folder.old; after = F.state folder.new }) (map string_bytes files.now.items) stop) }
+    ensures read { IfOk result (λ read. (n : ℕ) → HasCome (IsVerdictAtSomeBudget n) (record { before = F.state folder.old; after = F.state folder.new }) (map string_bytes files.now.items) (F.state folder.new).given (items_of read.items) []) }
+    ensures ended { IfErr result (λ stop. (n : ℕ) → EndsEarly (IsVerdictAtSomeBudget n) (record { before = F.state folder.old; after = F.state folder.new }) (map string_bytes files.now.items) stop) }
 {
     let mut reading = Reading::new(alloc);
     for file in files {
@@ -76,8 +76,8 @@ impl Reading {
         ensures absences { (F.state folder.old).absences ≤ (F.state folder.new).absences }
         ensures in_step { OnOk result (IsInStep self.new) }
         ensures read { OnOk result ((ws : List Written) × (items_of self.new.files.items ≡ items_of self.old.files.items ++ ws)
-            × IsRead (record { before = F.state folder.old; after = F.state folder.new }) file.now (names_of (items_of self.old.files.items)) ws) }
-        ensures ended { IfErr result (EndsAt (record { before = F.state folder.old; after = F.state folder.new }) file.now (names_of (items_of self.old.files.items))) }
+            × IsRead (record { before = F.state folder.old; after = F.state folder.new }) file.now (item_names (items_of self.old.files.items)) ws) }
+        ensures ended { IfErr result (EndsAt (record { before = F.state folder.old; after = F.state folder.new }) file.now (item_names (items_of self.old.files.items))) }
     {
         let next = read_file(alloc, file, &self.known, self.items, folder)?;
         self.known.add(alloc, &next)?;
@@ -114,7 +114,7 @@ fn read_file<F: Folder>(
 
 /// The outcome where the file was not read.
 fn unread(alloc: Global, file: &str, stop: ReadStop) -> Result<Outcome, NoMemory>
-    ensures { IfOk result (λ outcome. (known : List Name) → MatchOption (sight_of_stop file.now stop) ⊥ (λ sight. IsStopped known sight outcome)) }
+    ensures { IfOk result (λ outcome. (known : List Name) → MatchOption (trace_of_stop file.now stop) ⊥ (λ trace. IsStopped known trace outcome)) }
 {
     let name = Text::new(alloc, file)?;
     match stop {

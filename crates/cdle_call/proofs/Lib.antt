@@ -1,2 +1,2 @@
-pub mod Works
+pub mod Work
 pub mod Ends

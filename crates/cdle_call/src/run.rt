@@ -5,13 +5,13 @@ ghost use Rattle.cdle_folder.specs.Files.{Bytes, Files};
 ghost use Rattle.cdle_model.specs.Check.{accepts, check_items};
 ghost use Rattle.cdle_model.specs.Forms.{Written};
 ghost use Rattle.cdle_words.specs.Words.{command_of, core};
-ghost use Rattle.build_drive.specs.Calls.{AreThere, IsReported};
+ghost use Rattle.build_drive.specs.Calls.{AreReadable, IsReported};
 ghost use Rattle.build_drive.specs.Reports.{status_of};
 ghost use Rattle.build_drive.specs.declared.outcome.Outcome.{Outcome as OutcomeOf};
-ghost use Rattle.build_drive.specs.declared.outcome.Outcome.TheVariants.{NoMemory as Wanted, Ok as Accepted, Refused as Rejected, Undecided as Unsettled, Usage as NoCommand};
+ghost use Rattle.build_drive.specs.declared.outcome.Outcome.TheVariants as outcomes;
 ghost use Rattle.build_drive.specs.declared.outcome.Reason.{Reason as ReasonOf};
 ghost use Rattle.build_drive.specs.declared.outcome.Spot.{Spot as SpotOf};
-ghost use Rattle.cdle_call.specs.Run.{Ends, IsRun, told};
+ghost use Rattle.cdle_call.specs.Run.{Ends, IsRun, bytes_put};
 ghost use Rattle.cdle_call.specs.Work.{IsAccepted, IsDetermined, IsRefused, IsSpent, IsWanting, IsWork};
 
 use build_drive::{Done, Outcome, core_command};
@@ -35,25 +35,25 @@ pub fn cdle_run<F: Folder, S: Sink>(
 ) -> Exit
     ensures status { result.status ≡ status_of result.outcome }
 
-    // The end of the call with its cause: what the words ask for, what was seen of the files and what they say, and what became of the report.
-    ensures run { IsRun (command_of (map string_bytes words.now.items))
+    // The end of the call with its cause: what the words ask for, the trace over the files and what they say, and what became of the report.
+    ensures call { IsRun (command_of (map string_bytes words.now.items))
         (record { before = F.state folder.old; after = F.state folder.new })
         (record { before = S.state out.old; after = S.state out.new }) result.outcome }
 
-    // Usage is answered only where the words are no command; that it is answered where they are none is said under `run` and `exact`.
-    ensures usage { result.outcome ≡ NoCommand → command_of (map string_bytes words.now.items) ≡ None }
+    // Usage is answered only where the words are no command; that it is answered where they are none is said under `call` and `exact`.
+    ensures usage { result.outcome ≡ outcomes.Usage → command_of (map string_bytes words.now.items) ≡ None }
 
     // Accepted: each file of the words is read to its end, in their order, and the list of all items has a derivation.
-    ensures accepted { (modules items : ℕ) → result.outcome ≡ Accepted modules items → IsAccepted (command_of (map string_bytes words.now.items))
+    ensures accepted { (modules items : ℕ) → result.outcome ≡ outcomes.Ok modules items → IsAccepted (command_of (map string_bytes words.now.items))
         (record { before = F.state folder.old; after = F.state folder.new }) items }
 
     // Refused: likewise each file is read, and the items up to the one that is named have no derivation.
-    ensures refused { (place : SpotOf) (why : ReasonOf) → result.outcome ≡ Rejected place why → IsRefused (command_of (map string_bytes words.now.items))
+    ensures refused { (place : SpotOf) (why : ReasonOf) → result.outcome ≡ outcomes.Refused place why → IsRefused (command_of (map string_bytes words.now.items))
         (record { before = F.state folder.old; after = F.state folder.new }) place }
 
     // Undecided: likewise each file is read; the question at that place is spent with the words' budget, and so is the plain check of all items,
     // there or earlier.
-    ensures undecided { (place : SpotOf) (units : ℕ) → result.outcome ≡ Unsettled place units → IsSpent (command_of (map string_bytes words.now.items))
+    ensures undecided { (place : SpotOf) (units : ℕ) → result.outcome ≡ outcomes.Undecided place units → IsSpent (command_of (map string_bytes words.now.items))
         (record { before = F.state folder.old; after = F.state folder.new }) place units }
 
     // No file is written.
@@ -63,13 +63,13 @@ pub fn cdle_run<F: Folder, S: Sink>(
     // where the plain check with the words' budget is not spent; only want of memory may be answered in its place.
     ensures exact { (f : Files) (o : OutcomeOf) → (F.state folder.old).files ≡ Some f → Quiet (F.state folder.old).read_faults (F.state folder.new).read_faults
         → Quiet (S.state out.old).faults (S.state out.new).faults → IsDetermined (command_of (map string_bytes words.now.items)) f o
-        → (result.outcome ≡ o) ⊎ (result.outcome ≡ Wanted) }
+        → (result.outcome ≡ o) ⊎ (result.outcome ≡ outcomes.NoMemory) }
 
     // So it accepts wherever the files of the words are there, within the limits, and the plain check with the words' budget accepts their items.
     ensures complete { (f : Files) (files : List Bytes) (budget : ℕ) (all : List Written) → (F.state folder.old).files ≡ Some f
         → Quiet (F.state folder.old).read_faults (F.state folder.new).read_faults → Quiet (S.state out.old).faults (S.state out.new).faults
-        → command_of (map string_bytes words.now.items) ≡ Some (core files budget) → AreThere f [] files all → check_items budget all ≡ accepts
-        → (result.outcome ≡ Accepted 0 (length all)) ⊎ (result.outcome ≡ Wanted) }
+        → command_of (map string_bytes words.now.items) ≡ Some (core files budget) → AreReadable f [] files all → check_items budget all ≡ accepts
+        → (result.outcome ≡ outcomes.Ok 0 (length all)) ⊎ (result.outcome ≡ outcomes.NoMemory) }
 {
     let done = work(alloc, words, folder);
     let outcome = put_report(done, out);
@@ -94,7 +94,7 @@ fn work<F: Folder>(alloc: Global, words: &Vec<String>, folder: &mut F) -> Done
 
 /// That the words are no command, reported where there is memory.
 fn usage(alloc: Global) -> Done
-    ensures { IsWanting result ⊎ (result.outcome ≡ NoCommand) × IsReported [] result }
+    ensures { IsWanting result ⊎ (result.outcome ≡ outcomes.Usage) × IsReported [] result }
 {
     match Done::new(alloc, Outcome::Usage, b"") {
         Ok(done) => done,
@@ -104,7 +104,7 @@ fn usage(alloc: Global) -> Done
 
 /// Puts the report; the outcome stands where that is done.
 fn put_report<S: Sink>(done: Done, out: &mut S) -> Outcome
-    ensures { Ends (record { before = S.state out.old; after = S.state out.new }) (told done.outcome done.report.items) done.outcome result }
+    ensures { Ends (record { before = S.state out.old; after = S.state out.new }) (bytes_put done.outcome done.report.items) done.outcome result }
 {
     match out.put(bytes_of(&done)) {
         Ok(()) => done.outcome,
@@ -117,7 +117,7 @@ fn put_report<S: Sink>(done: Done, out: &mut S) -> Outcome
 
 /// The bytes that are put. That memory is wanting is said without any.
 fn bytes_of(done: &Done) -> &[u8]
-    ensures { result.now ≡ told done.now.outcome done.now.report.items }
+    ensures { result.now ≡ bytes_put done.now.outcome done.now.report.items }
 {
     match &done.outcome {
         Outcome::NoMemory => b"out of memory\n",

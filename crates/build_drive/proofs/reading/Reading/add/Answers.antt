@@ -1,11 +1,11 @@
 use Rattle.std.proofs.Common.{◌≡◌, ◌∙◌, ◌+◌, ◌++◌, [], List, ap, arith, length, subst}
 use Rattle.cdle_model.specs.Forms.{Written}
 use Rattle.core_check.specs.Items.{items_of}
-use Rattle.build_drive.specs.Sights.{Visit}
-use Rattle.build_drive.specs.Works.{IsRead}
+use Rattle.build_drive.specs.Traces.{FolderChange}
+use Rattle.build_drive.specs.Progress.{IsRead}
 use Rattle.build_drive.specs.declared.reading.Reading.{Reading}
 use Rattle.build_drive.proofs.Items.{items-push, names-length}
-use Rattle.build_drive.proofs.Works.{one_more}
+use Rattle.build_drive.proofs.Progress.{one_more}
 use Rattle.build_drive.proofs.reading.Reading.add.Goals as goal
 
 pub read_file-requires-clause-counted : goal.read_file-requires-clause-counted
@@ -19,6 +19,6 @@ returns-clause-in_step g c =
 
 pub returns-clause-read : goal.returns-clause-read
 returns-clause-read g c =
-    let v : Visit = record { before = g.F.Folder.state c.args.folder.now; after = g.F.Folder.state c.read_file.new.folder } in
+    let v : FolderChange = record { before = g.F.Folder.state c.args.folder.now; after = g.F.Folder.state c.read_file.new.folder } in
     let ws : List Written = c.in_ok-next.next.items in
     (ws, ap items_of c.in_ok-push.ensures.items ∙ items-push c.args.self.now.files.items c.in_ok-next.next, subst (λ known. IsRead v c.args.file.now known ws) c.requires.known c.in_ok-next.ensures.read)
