@@ -4,5 +4,5 @@ pub mod Numbers
 pub mod Verdicts
 pub mod Ends
 pub mod Calls
-pub mod Works
+pub mod Progress
 pub mod Theorem

@@ -11,11 +11,7 @@ refused_text report item p path w why e f g = simp append_assoc (rw (f, g) at e)
 pub duplicate_text : (report item : List ℕ) → report ≡ codes "refused " ++ (item ++ codes ": duplicate\n") → report ≡ line (codes "refused " ++ (item ++ codes ": duplicate"))
 duplicate_text report item e = simp append_assoc e
 
-pub malformed_text : (report f file : List ℕ) (l at c column : ℕ) (w what : List ℕ)
-    → report ≡ f ++ (codes ":" ++ (decimal l ++ (codes ":" ++ (decimal c ++ (codes ": malformed: " ++ (w ++ codes "\n")))))) → f ≡ file → l ≡ at → c ≡ column → w ≡ what
+pub malformed_text : (report file : List ℕ) (l at c column : ℕ) (w what : List ℕ)
+    → report ≡ file ++ (codes ":" ++ (decimal l ++ (codes ":" ++ (decimal c ++ (codes ": malformed: " ++ (w ++ codes "\n")))))) → l ≡ at → c ≡ column → w ≡ what
     → report ≡ line (file ++ (codes ":" ++ (decimal at ++ (codes ":" ++ (decimal column ++ (codes ": malformed: " ++ what))))))
-malformed_text report f file l at c column w what e p q r s = simp append_assoc (rw (p, q, r, s) at e)
-
-pub limit_text : (report n name w what : List ℕ) → report ≡ codes "limit " ++ (n ++ (codes ": " ++ (w ++ codes "\n"))) → n ≡ name → w ≡ what
-    → report ≡ line (codes "limit " ++ (name ++ (codes ": " ++ what)))
-limit_text report n name w what e f g = simp append_assoc (rw (f, g) at e)
+malformed_text report file l at c column w what e p q r = simp append_assoc (rw (p, q, r) at e)

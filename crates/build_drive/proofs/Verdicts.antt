@@ -21,7 +21,7 @@ use Rattle.core_tree.specs.declared.faults.Kept.{Kept}
 use Rattle.core_tree.specs.declared.faults.Kept.TheVariants.{Whole, Deep}
 use Rattle.core_tree.specs.declared.faults.Why.{Why}
 use Rattle.core_tree.specs.declared.faults.Why.TheVariants as w
-use Rattle.build_drive.specs.Checks.{IsDecided, IsItemName, IsVerdict, Tells}
+use Rattle.build_drive.specs.Checks.{IsVerdictAtBudget, IsItemName, IsVerdictAtSomeBudget, MatchesVerdict}
 use Rattle.build_drive.specs.declared.outcome.Outcome.{Outcome}
 use Rattle.build_drive.specs.declared.outcome.Outcome.TheVariants as outcome
 use Rattle.build_drive.specs.declared.outcome.Reason.TheVariants.{Core, Duplicate}
@@ -30,14 +30,14 @@ use Rattle.build_drive.specs.declared.outcome.Spot.TheVariants.{CoreSpot}
 -- ---- from a fault to its outcome
 
 pub refused-verdict : (n : ℕ) (ws : List Written) (i : ℕ) (path : List ℕ) (why : Why) (name : Bytes) → AreScoped ws → IsFaultOf n ws (fault.Refused i path why) → IsItemName ws i name
-    → IsVerdict n ws (outcome.Refused (CoreSpot name path) (Core why))
+    → IsVerdictAtSomeBudget n ws (outcome.Refused (CoreSpot name path) (Core why))
 refused-verdict n ws i path why name over h item =
-    (h.0, subst (λ v. Tells ws v (outcome.Refused (CoreSpot name path) (Core why))) (sym h.2) ((item, refl), h.3, refused-lost ws over h.0 i path h.1 h.2))
+    (h.0, subst (λ v. MatchesVerdict ws v (outcome.Refused (CoreSpot name path) (Core why))) (sym h.2) ((item, refl), h.3, refused-lost ws over h.0 i path h.1 h.2))
 
 pub duplicate-verdict : (n : ℕ) (ws : List Written) (i earlier : ℕ) (name : Bytes) → AreScoped ws → IsFaultOf n ws (fault.Duplicate i earlier) → IsItemName ws i name
-    → IsVerdict n ws (outcome.Refused (CoreSpot name []) (Duplicate earlier))
+    → IsVerdictAtSomeBudget n ws (outcome.Refused (CoreSpot name []) (Duplicate earlier))
 duplicate-verdict n ws i earlier name over h item =
-    (h.0, subst (λ v. Tells ws v (outcome.Refused (CoreSpot name []) (Duplicate earlier))) (sym h.1) ((item, refl), refl, duplicate-lost ws over h.0 i earlier h.1))
+    (h.0, subst (λ v. MatchesVerdict ws v (outcome.Refused (CoreSpot name []) (Duplicate earlier))) (sym h.1) ((item, refl), refl, duplicate-lost ws over h.0 i earlier h.1))
 
 -- ---- the outcome of a verdict, as a function
 
@@ -87,7 +87,7 @@ outcome_of ws (duplicate i earlier) = outcome.Refused (CoreSpot (name_in (slice_
 outcome_of ws (ends i h) = outcome.Limit (name_in (slice_get ws i)) Depth
 outcome_of ws (spends i path) = outcome.NoMemory
 
-tells-is : (ws : List Written) (v : ListVerdict) (o : Outcome) → Tells ws v o → o ≡ outcome_of ws v
+tells-is : (ws : List Written) (v : ListVerdict) (o : Outcome) → MatchesVerdict ws v o → o ≡ outcome_of ws v
 tells-is ws accepts (outcome.Ok modules items) h = ap₂ outcome.Ok h.0 h.1
 tells-is ws (refuses i path reason) (outcome.Refused (CoreSpot name p) (Core why)) h = rw (name-is ws i name h.0.0, h.0.1, why-is reason why h.1) refl
 tells-is ws (duplicate i earlier) (outcome.Refused (CoreSpot name p) (Duplicate e)) h = rw (name-is ws i name h.0.0, h.0.1, h.1) refl
@@ -96,19 +96,19 @@ tells-is ws v o h = absurd h
 
 -- ---- at two budgets
 
-unspent : (ws : List Written) (v : ListVerdict) (o : Outcome) → Tells ws v o → (i : ℕ) (p : List ℕ) → v ≡ spends i p → ⊥
-unspent ws v o h i p e = subst (λ x. Tells ws x o) e h
+unspent : (ws : List Written) (v : ListVerdict) (o : Outcome) → MatchesVerdict ws v o → (i : ℕ) (p : List ℕ) → v ≡ spends i p → ⊥
+unspent ws v o h i p e = subst (λ x. MatchesVerdict ws x o) e h
 
-same-verdict : (n m : ℕ) (ws : List Written) (o p : Outcome) → IsDecided n ws o → IsDecided m ws p → check_items m ws ≡ check_items n ws
+same-verdict : (n m : ℕ) (ws : List Written) (o p : Outcome) → IsVerdictAtBudget n ws o → IsVerdictAtBudget m ws p → check_items m ws ≡ check_items n ws
 same-verdict n m ws o p h g =
     sym (list-stays m n ws (check_items m ws) refl (unspent ws (check_items m ws) p g))
     ∙ ap (λ (k : ℕ). check_items k ws) (omega arith) ∙ list-stays n m ws (check_items n ws) refl (unspent ws (check_items n ws) o h)
 
-decided-twice : (n : ℕ) (ws : List Written) (o p : Outcome) → IsDecided n ws o → (m : ℕ) × IsDecided m ws p → p ≡ o
+decided-twice : (n : ℕ) (ws : List Written) (o p : Outcome) → IsVerdictAtBudget n ws o → (m : ℕ) × IsVerdictAtBudget m ws p → p ≡ o
 decided-twice n ws o p h g =
     tells-is ws (check_items g.0 ws) p g.1 ∙ ap (outcome_of ws) (same-verdict n g.0 ws o p h g.1) ∙ sym (tells-is ws (check_items n ws) o h)
 
-pub one-verdict : (n : ℕ) (ws : List Written) (o p : Outcome) → IsDecided n ws o → IsVerdict n ws p → p ≡ o
+pub one-verdict : (n : ℕ) (ws : List Written) (o p : Outcome) → IsVerdictAtBudget n ws o → IsVerdictAtSomeBudget n ws p → p ≡ o
 one-verdict n ws o (outcome.Undecided spot budget) h g =
     let spent = undecided-spent n g.4 ws g.1 g.2 g.5 in absurd (unspent ws (check_items n ws) o h spent.0 spent.1 spent.2)
 one-verdict n ws o (outcome.Ok modules items) h g = decided-twice n ws o _ h g

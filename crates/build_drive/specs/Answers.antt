@@ -11,15 +11,15 @@ use Rattle.cdle_model.specs.Forms.{Written}
 use Rattle.cdle_model.specs.Report.{wanted_word}
 use Rattle.cdle_model.specs.declared.grammar.CoreWanted.{CoreWanted}
 use Rattle.cdle_model.specs.declared.grammar.Count.TheVariants.{Bytes as OfBytes, Nesting, Items}
-use Rattle.build_drive.specs.Sights.{Sight, every, absent, too_long, unread, last, contents}
+use Rattle.build_drive.specs.Traces.{Trace, no_more, absent, too_long, unread, ending, contents}
 use Rattle.build_drive.specs.declared.outcome.Badness.{Badness}
 use Rattle.build_drive.specs.declared.outcome.Badness.TheVariants as bad
 use Rattle.build_drive.specs.declared.outcome.Outcome.{Outcome}
 use Rattle.build_drive.specs.declared.outcome.Outcome.TheVariants as outcome
 
 -- the names of these items, the latest first
-abbrev pub names_of : List Written → List Name
-names_of es = with_items es []
+abbrev pub item_names : List Written → List Name
+item_names es = with_items es []
 
 -- behind items of these names the bytes are no text of the grammar and its scope, since this is wrong at that byte, and nothing before it
 abbrev pub IsMalformed : List Name → Bytes → ℕ → Badness → Type 0
@@ -40,17 +40,17 @@ IsEnd known file bytes (outcome.Limit name Items) = (name ≡ file) × (ws : Lis
 IsEnd known file bytes o = ⊥
 
 -- the outcome where the next file ended the call
-abbrev pub IsStopped : List Name → Sight → Outcome → Type 0
+abbrev pub IsStopped : List Name → Trace → Outcome → Type 0
 IsStopped known (absent file) (outcome.Missing name) = name ≡ file
 IsStopped known (too_long file) (outcome.Limit name OfBytes) = name ≡ file
 IsStopped known (unread file) (outcome.ReadFault name) = name ≡ file
-IsStopped known (last file bytes) o = IsEnd known file bytes o
+IsStopped known (ending file bytes) o = IsEnd known file bytes o
 IsStopped known s o = ⊥
 
--- The outcome of what was seen, behind the items es of the files before, where these are the outcomes of the check. Each file that was read to
+-- The outcome of a trace, behind the items es of the files before, where these are the outcomes of the check. Each file that was read to
 -- its end says items behind the earlier ones, and all of them are checked.
-abbrev pub IsOutcome : (List Written → Outcome → Type 0) → List Written → Sight → Outcome → Type 0
-IsOutcome Verdict es every o = Verdict es o
+abbrev pub IsOutcome : (List Written → Outcome → Type 0) → List Written → Trace → Outcome → Type 0
+IsOutcome Verdict es no_more o = Verdict es o
 IsOutcome Verdict es (contents file bytes rest) o =
-    (ws : List Written) × Says bytes (names_of es) ws × (length es + length ws ≤ most_items) × IsOutcome Verdict (es ++ ws) rest o
-IsOutcome Verdict es s o = IsStopped (names_of es) s o
+    (ws : List Written) × Says bytes (item_names es) ws × (length es + length ws ≤ most_items) × IsOutcome Verdict (es ++ ws) rest o
+IsOutcome Verdict es s o = IsStopped (item_names es) s o

@@ -5,9 +5,9 @@ use Rattle.cdle_model.specs.Check.{IsUndecided, check_items, spends}
 use Rattle.cdle_model.specs.CoreText.{Says}
 use Rattle.cdle_model.specs.Derivation.{AreDerived}
 use Rattle.cdle_model.specs.Forms.{Written}
-use Rattle.build_drive.specs.Sights.{Visit, Sight, Saw, most_bytes, text_seen}
-use Rattle.build_drive.specs.Checks.{HaveNone, IsSpot, IsVerdict}
-use Rattle.build_drive.specs.Answers.{IsOutcome, names_of, most_items}
+use Rattle.build_drive.specs.Traces.{FolderChange, Trace, IsTrace, most_bytes, ending_text}
+use Rattle.build_drive.specs.Checks.{AreNotDerivedUpTo, IsSpot, IsVerdictAtSomeBudget}
+use Rattle.build_drive.specs.Answers.{IsOutcome, item_names, most_items}
 use Rattle.build_drive.specs.Reports.{report_of}
 use Rattle.build_drive.specs.declared.done.Done.{Done}
 use Rattle.build_drive.specs.declared.outcome.Outcome.{Outcome}
@@ -18,36 +18,36 @@ use Rattle.build_drive.specs.declared.outcome.Spot.{Spot}
 abbrev pub IsReported : Bytes → Done → Type 0
 IsReported text d = d.report.items ≡ report_of text d.outcome
 
--- this was seen of the files, and the outcome and the report are of it
-abbrev pub IsWork : (List Written → Outcome → Type 0) → Visit → List Bytes → Done → Type 0
-IsWork Verdict v files d = (s : Sight) × Saw v v.before.given files s × IsOutcome Verdict [] s d.outcome × IsReported (text_seen s) d
+-- the call has a trace over these files, and the outcome and the report are of it
+abbrev pub IsTraced : (List Written → Outcome → Type 0) → FolderChange → List Bytes → Done → Type 0
+IsTraced Verdict v files d = (s : Trace) × IsTrace v v.before.given files s × IsOutcome Verdict [] s d.outcome × IsReported (ending_text s) d
 
 -- The end of a call on these files, with n units for each comparison and each head form. Memory may run out anywhere; then there is no report.
-abbrev pub IsCall : ℕ → Visit → List Bytes → Done → Type 0
-IsCall n v files d = (d.outcome ≡ outcome.NoMemory) × (d.report.items ≡ []) ⊎ IsWork (IsVerdict n) v files d
+abbrev pub IsCall : ℕ → FolderChange → List Bytes → Done → Type 0
+IsCall n v files d = (d.outcome ≡ outcome.NoMemory) × (d.report.items ≡ []) ⊎ IsTraced (IsVerdictAtSomeBudget n) v files d
 
 -- These files, read in this call when its reads had given that much, are read to their ends, and say in their order all the items behind es.
-abbrev pub AreRead : Visit → Option Reads → List Written → List Bytes → List Written → Type 0
+abbrev pub AreRead : FolderChange → Option Reads → List Written → List Bytes → List Written → Type 0
 AreRead v given es [] all = (v.after.given ≡ given) × (all ≡ es)
-AreRead v given es (file ∷ files) all = (bytes : Bytes) × (ws : List Written) × IfSome v.before.files (λ f. f file ≡ Some bytes) × Says bytes (names_of es) ws
+AreRead v given es (file ∷ files) all = (bytes : Bytes) × (ws : List Written) × IfSome v.before.files (λ f. f file ≡ Some bytes) × Says bytes (item_names es) ws
     × AreRead v (with_read file bytes given) (es ++ ws) files all
 
 -- accepted: every file was read to its end, and the list of all items, so many, has a derivation
-abbrev pub AreAccepted : Visit → List Bytes → ℕ → Type 0
+abbrev pub AreAccepted : FolderChange → List Bytes → ℕ → Type 0
 AreAccepted v files items = (all : List Written) × AreRead v v.before.given [] files all × AreDerived all × (items ≡ length all)
 
 -- refused there: every file was read to its end, and the items up to the one that is named have no derivation
-abbrev pub AreRefused : Visit → List Bytes → Spot → Type 0
-AreRefused v files place = (all : List Written) × AreRead v v.before.given [] files all × (i : ℕ) × (path : List ℕ) × IsSpot all i path place × HaveNone all i
+abbrev pub AreRefused : FolderChange → List Bytes → Spot → Type 0
+AreRefused v files place = (all : List Written) × AreRead v v.before.given [] files all × (i : ℕ) × (path : List ℕ) × IsSpot all i path place × AreNotDerivedUpTo all i
 
 -- undecided there with n units: every file was read to its end; the comparison or head form there is spent with n units, and all before it pass
 -- with some number of them; and the plain check of all items with n units is spent, there or earlier
-abbrev pub AreUndecided : ℕ → Visit → List Bytes → Spot → Type 0
+abbrev pub AreUndecided : ℕ → FolderChange → List Bytes → Spot → Type 0
 AreUndecided n v files place = (all : List Written) × AreRead v v.before.given [] files all × (i : ℕ) × (path : List ℕ) × IsSpot all i path place
     × (k : ℕ) × IsUndecided n (n + k) all i path × (j : ℕ) × (earlier : List ℕ) × (check_items n all ≡ spends j earlier)
 
 -- these files are in the folder, within the limits, and say in their order all the items behind es
-abbrev pub AreThere : Files → List Written → List Bytes → List Written → Type 0
-AreThere f es [] all = all ≡ es
-AreThere f es (file ∷ files) all = (bytes : Bytes) × (ws : List Written) × (f file ≡ Some bytes) × (length bytes ≤ most_bytes) × Says bytes (names_of es) ws
-    × (length es + length ws ≤ most_items) × AreThere f (es ++ ws) files all
+abbrev pub AreReadable : Files → List Written → List Bytes → List Written → Type 0
+AreReadable f es [] all = all ≡ es
+AreReadable f es (file ∷ files) all = (bytes : Bytes) × (ws : List Written) × (f file ≡ Some bytes) × (length bytes ≤ most_bytes) × Says bytes (item_names es) ws
+    × (length es + length ws ≤ most_items) × AreReadable f (es ++ ws) files all

@@ -1,6 +1,6 @@
-pub mod Sights
+pub mod Traces
 pub mod Checks
 pub mod Answers
 pub mod Reports
 pub mod Calls
-pub mod Works
+pub mod Progress

@@ -1,11 +1,12 @@
 //! The check of all items.
-ghost use Rattle.std.specs.Prelude.{◌<◌, ◌≤◌, [], IfOk, length};
+ghost use Rattle.std.specs.Prelude.{◌<◌, ◌≤◌, [], IfOk, List, length};
 ghost use Rattle.cdle_model.specs.Classes.{AreScoped};
+ghost use Rattle.cdle_model.specs.Forms.{Written};
 ghost use Rattle.core_check.specs.Answer.{IsFaultOf};
 ghost use Rattle.core_check.specs.Items.{items_of};
 ghost use Rattle.build_drive.specs.Answers.{most_items};
 ghost use Rattle.build_drive.specs.Calls.{IsReported};
-ghost use Rattle.build_drive.specs.Checks.{IsItemName, IsVerdict};
+ghost use Rattle.build_drive.specs.Checks.{IsItemName, IsNameAt, IsVerdictAtSomeBudget};
 ghost use Rattle.build_drive.specs.Reports.{IsShown};
 
 use crate::done::Done;
@@ -19,7 +20,7 @@ use std::alloc::Global;
 pub(crate) fn checked(alloc: Global, files: &Vec<CoreFile>, budget: u64) -> Result<Done, NoMemory>
     requires items { AreScoped (items_of files.now.items) }
     requires few { length (items_of files.now.items) ≤ most_items }
-    ensures verdict { IfOk result (λ done. IsVerdict budget (items_of files.now.items) done.outcome) }
+    ensures verdict { IfOk result (λ done. IsVerdictAtSomeBudget budget (items_of files.now.items) done.outcome) }
     ensures report { IfOk result (IsReported []) }
 {
     let outcome = match check_files(alloc, files, budget) {
@@ -41,37 +42,63 @@ fn refused(
 ) -> Result<Outcome, NoMemory>
     requires items { AreScoped (items_of files.now.items) }
     requires fault { IsFaultOf budget (items_of files.now.items) fault }
-    ensures verdict { IfOk result (IsVerdict budget (items_of files.now.items)) }
+    ensures verdict { IfOk result (IsVerdictAtSomeBudget budget (items_of files.now.items)) }
     ensures shown { IfOk result (IsShown []) }
 {
+    match name_at(alloc, files, budget, &fault) {
+        Ok(name) => Ok(outcome_at(alloc, name, budget, fault)),
+        Err(wanted) => {
+            drop(fault);
+            Err(wanted)
+        }
+    }
+}
+
+/// The name of the item at which the check stopped.
+fn name_at(
+    alloc: Global,
+    files: &Vec<CoreFile>,
+    budget: u64,
+    fault: &CoreFault,
+) -> Result<Text, NoMemory>
+    requires { IsFaultOf budget (items_of files.now.items) fault.now }
+    ensures { IfOk result (IsNameAt (items_of files.now.items) fault.now) }
+{
     match fault {
-        CoreFault::Refused { item, path, why } => {
-            let item = item_name(alloc, files, item)?;
-            Ok(Outcome::Refused {
-                place: Spot::CoreSpot { item, path },
-                why: Reason::Core(why),
-            })
-        }
-        CoreFault::Duplicate { item, earlier } => {
-            let item = item_name(alloc, files, item)?;
-            let path = Path::new(Vec::new(alloc));
-            Ok(Outcome::Refused {
-                place: Spot::CoreSpot { item, path },
-                why: Reason::Duplicate { earlier },
-            })
-        }
-        CoreFault::Undecided { item, path } => {
-            let item = item_name(alloc, files, item)?;
-            Ok(Outcome::Undecided {
-                place: Spot::CoreSpot { item, path },
-                budget,
-            })
-        }
-        CoreFault::TooDeep { item } => Ok(Outcome::Limit {
-            name: item_name(alloc, files, item)?,
-            what: Count::Depth,
-        }),
+        CoreFault::Refused { item, .. } => item_name(alloc, files, *item),
+        CoreFault::Duplicate { item, .. } => item_name(alloc, files, *item),
+        CoreFault::Undecided { item, .. } => item_name(alloc, files, *item),
+        CoreFault::TooDeep { item } => item_name(alloc, files, *item),
         CoreFault::NoMemory => Err(NoMemory),
+    }
+}
+
+/// The outcome of a fault in the item of that name.
+fn outcome_at(alloc: Global, item: Text, budget: u64, fault: CoreFault) -> Outcome
+    ensures verdict { (ws : List Written) → AreScoped ws → IsFaultOf budget ws fault → IsNameAt ws fault item → IsVerdictAtSomeBudget budget ws result }
+    ensures shown { IsShown [] result }
+{
+    match fault {
+        CoreFault::Refused { path, why, .. } => Outcome::Refused {
+            place: Spot::CoreSpot { item, path },
+            why: Reason::Core(why),
+        },
+        CoreFault::Duplicate { earlier, .. } => Outcome::Refused {
+            place: Spot::CoreSpot {
+                item,
+                path: Path::new(Vec::new(alloc)),
+            },
+            why: Reason::Duplicate { earlier },
+        },
+        CoreFault::Undecided { path, .. } => Outcome::Undecided {
+            place: Spot::CoreSpot { item, path },
+            budget,
+        },
+        CoreFault::TooDeep { .. } => Outcome::Limit {
+            name: item,
+            what: Count::Depth,
+        },
+        CoreFault::NoMemory => Outcome::NoMemory,
     }
 }
 

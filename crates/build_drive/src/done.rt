@@ -2,8 +2,8 @@
 ghost use Rattle.std.specs.Prelude.{◌≡◌, [], IfOk};
 ghost use Rattle.build_drive.specs.Reports.{IsShown};
 ghost use Rattle.build_drive.specs.Calls.{IsReported};
-ghost use Rattle.build_drive.specs.declared.done.Stop.TheVariants.{NoMemory as Wanted};
-ghost use Rattle.build_drive.specs.declared.outcome.Outcome.TheVariants.{NoMemory as OutOfMemory};
+ghost use Rattle.build_drive.specs.declared.done.Stop.TheVariants as stops;
+ghost use Rattle.build_drive.specs.declared.outcome.Outcome.TheVariants as outcomes;
 
 use crate::outcome::Outcome;
 use crate::reports::report;
@@ -24,13 +24,21 @@ impl Done {
         ensures outcome { IfOk result (λ done. done.outcome ≡ outcome) }
         ensures report { IfOk result (IsReported text.now) }
     {
-        let report = report(alloc, &outcome, text)?.into_bytes();
-        Ok(Done { outcome, report })
+        match report(alloc, &outcome, text) {
+            Ok(report) => Ok(Done {
+                outcome,
+                report: report.into_bytes(),
+            }),
+            Err(wanted) => {
+                drop(outcome);
+                Err(wanted)
+            }
+        }
     }
 
     /// That memory was wanted. Saying so takes none.
     pub fn no_memory(alloc: Global) -> Done
-        ensures outcome { result.outcome ≡ OutOfMemory }
+        ensures outcome { result.outcome ≡ outcomes.NoMemory }
         ensures report { result.report.items ≡ [] }
     {
         Done {
@@ -50,7 +58,7 @@ pub(crate) enum Stop {
 }
 
 impl From<NoMemory> for Stop {
-    ghost from_gives = { λ _ stop. stop ≡ Wanted };
+    ghost from_gives = { λ _ stop. stop ≡ stops.NoMemory };
 
     fn from(_: NoMemory) -> Stop {
         Stop::NoMemory
@@ -58,7 +66,7 @@ impl From<NoMemory> for Stop {
 }
 
 impl From<AllocError> for Stop {
-    ghost from_gives = { λ _ stop. stop ≡ Wanted };
+    ghost from_gives = { λ _ stop. stop ≡ stops.NoMemory };
 
     fn from(_: AllocError) -> Stop {
         Stop::NoMemory
@@ -66,7 +74,7 @@ impl From<AllocError> for Stop {
 }
 
 impl<T: Drop> From<AllocFailed<T>> for Stop {
-    ghost from_gives = { λ _ stop. stop ≡ Wanted };
+    ghost from_gives = { λ _ stop. stop ≡ stops.NoMemory };
 
     fn from(_: AllocFailed<T>) -> Stop {
         Stop::NoMemory

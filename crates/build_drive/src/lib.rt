@@ -16,6 +16,3 @@ mod reports;
 pub use command::core_command;
 pub use done::Done;
 pub use outcome::{Badness, Outcome, Reason, Spot};
-
-#[cfg(test)]
-mod tests;

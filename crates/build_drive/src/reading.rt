@@ -1,17 +1,18 @@
 //! Reading the files, one behind the other.
-ghost use Rattle.std.specs.Prelude.{◌≡◌, ◌+◌, ◌≤◌, [], ℕ, List, IfErr, IfOk, MatchOption, length, map, string_bytes};
+ghost use Rattle.std.specs.Prelude.{◌≡◌, ◌+◌, ◌≤◌, ◌++◌, [], ℕ, List, IfErr, IfOk, MatchOption, OnOk, length, map, string_bytes};
 ghost use Rattle.cdle_model.specs.Classes.{AreScoped};
 ghost use Rattle.cdle_model.specs.CoreNames.{Name};
 ghost use Rattle.cdle_model.specs.CoreText.{Says};
+ghost use Rattle.cdle_model.specs.Forms.{Written};
 ghost use Rattle.cdle_model.specs.Report.{wanted_word};
 ghost use Rattle.core_check.specs.Items.{items_of};
 ghost use Rattle.core_text.specs.File.{IsFaultOf};
 ghost use Rattle.core_text.specs.Scope.{known_names};
 ghost use Rattle.core_text.specs.View.{IsPlaced};
-ghost use Rattle.build_drive.specs.Answers.{IsEnd, IsStopped, most_items};
-ghost use Rattle.build_drive.specs.Checks.{IsVerdict};
+ghost use Rattle.build_drive.specs.Answers.{IsEnd, IsStopped, most_items, item_names};
+ghost use Rattle.build_drive.specs.Checks.{IsVerdictAtSomeBudget};
 ghost use Rattle.build_drive.specs.Reports.{IsShown};
-ghost use Rattle.build_drive.specs.Works.{EndsAt, EndsEarly, EndsIn, HasCome, IsRead, sight_of_stop};
+ghost use Rattle.build_drive.specs.Progress.{EndsAt, EndsEarly, EndsIn, HasCome, IsInStep, IsRead, trace_of_stop};
 
 use crate::done::{Done, Stop};
 use crate::outcome::{Badness, Outcome};
@@ -27,6 +28,14 @@ const MOST_BYTES: u64 = 1_048_576;
 /// The most items of all files.
 const MOST_ITEMS: usize = 10_000;
 
+/// The files that were read, the names of their items, and how many these are.
+#[derive(Drop)]
+pub(crate) struct Reading {
+    files: Vec<CoreFile>,
+    known: CoreScope,
+    items: usize,
+}
+
 /// The files in their order, each behind the earlier ones.
 pub(crate) fn read_files<F: Folder>(
     alloc: Global,
@@ -36,19 +45,46 @@ pub(crate) fn read_files<F: Folder>(
     ensures files { (F.state folder.new).files ≡ (F.state folder.old).files }
     ensures items { IfOk result (λ read. AreScoped (items_of read.items)) }
     ensures few { IfOk result (λ read. length (items_of read.items) ≤ most_items) }
-    ensures read { IfOk result (λ read. (n : ℕ) → HasCome (IsVerdict n) (record { before = F.state folder.old; after = F.state folder.new }) (map string_bytes files.now.items) (F.state folder.new).given (items_of read.items) []) }
-    ensures ended { IfErr result (λ stop. (n : ℕ) → EndsEarly (IsVerdict n) (record { before = F.state folder.old; after = F.state folder.new }) (map string_bytes files.now.items) stop) }
+    ensures read { IfOk result (λ read. (n : ℕ) → HasCome (IsVerdictAtSomeBudget n) (record { before = F.state folder.old; after = F.state folder.new }) (map string_bytes files.now.items) (F.state folder.new).given (items_of read.items) []) }
+    ensures ended { IfErr result (λ stop. (n : ℕ) → EndsEarly (IsVerdictAtSomeBudget n) (record { before = F.state folder.old; after = F.state folder.new }) (map string_bytes files.now.items) stop) }
 {
-    let mut known = CoreScope::new(alloc);
-    let mut items = 0;
-    let mut read = Vec::new(alloc);
+    let mut reading = Reading::new(alloc);
     for file in files {
-        let next = read_file(alloc, file.as_str(), &known, items, folder)?;
-        known.add(alloc, &next)?;
-        items += next.items.len();
-        read.push(next)?;
+        reading.add(alloc, file.as_str(), folder)?;
     }
-    Ok(read)
+    Ok(reading.files)
+}
+
+impl Reading {
+    /// Before any file.
+    fn new(alloc: Global) -> Reading
+        ensures in_step { IsInStep result }
+        ensures empty { items_of result.files.items ≡ [] }
+    {
+        Reading {
+            files: Vec::new(alloc),
+            known: CoreScope::new(alloc),
+            items: 0,
+        }
+    }
+
+    /// Reads the next file, behind the others.
+    fn add<F: Folder>(&mut self, alloc: Global, file: &str, folder: &mut F) -> Result<(), Stop>
+        requires { IsInStep self.old }
+        ensures files { (F.state folder.new).files ≡ (F.state folder.old).files }
+        ensures read_faults { (F.state folder.old).read_faults ≤ (F.state folder.new).read_faults }
+        ensures absences { (F.state folder.old).absences ≤ (F.state folder.new).absences }
+        ensures in_step { OnOk result (IsInStep self.new) }
+        ensures read { OnOk result ((ws : List Written) × (items_of self.new.files.items ≡ items_of self.old.files.items ++ ws)
+            × IsRead (record { before = F.state folder.old; after = F.state folder.new }) file.now (item_names (items_of self.old.files.items)) ws) }
+        ensures ended { IfErr result (EndsAt (record { before = F.state folder.old; after = F.state folder.new }) file.now (item_names (items_of self.old.files.items))) }
+    {
+        let next = read_file(alloc, file, &self.known, self.items, folder)?;
+        self.known.add(alloc, &next)?;
+        self.items += next.items.len();
+        self.files.push(next)?;
+        Ok(())
+    }
 }
 
 /// The next file, behind so many items of these names.
@@ -78,7 +114,7 @@ fn read_file<F: Folder>(
 
 /// The outcome where the file was not read.
 fn unread(alloc: Global, file: &str, stop: ReadStop) -> Result<Outcome, NoMemory>
-    ensures { IfOk result (λ outcome. (known : List Name) → MatchOption (sight_of_stop file.now stop) ⊥ (λ sight. IsStopped known sight outcome)) }
+    ensures { IfOk result (λ outcome. (known : List Name) → MatchOption (trace_of_stop file.now stop) ⊥ (λ trace. IsStopped known trace outcome)) }
 {
     let name = Text::new(alloc, file)?;
     match stop {

@@ -1,7 +1,7 @@
 //! The texts of the reports.
 ghost use Rattle.std.specs.Prelude.{◌≡◌, ◌<◌, IfOk, length, string_bytes};
 ghost use Rattle.cdle_model.specs.Places.{column_of, line_of};
-ghost use Rattle.cdle_model.specs.Report.{count_word, path_text, undecided_line};
+ghost use Rattle.cdle_model.specs.Report.{accepted_line, cannot_read_line, count_word, limit_line, malformed_line, missing_line, path_text, undecided_line};
 ghost use Rattle.build_drive.specs.declared.outcome.Spot.TheVariants.{CoreSpot};
 ghost use Rattle.build_drive.specs.Reports.{IsShown, IsTextTo, bad_word, refusal_line, report_of, why_word};
 
@@ -17,15 +17,8 @@ pub(crate) fn report(alloc: Global, outcome: &Outcome, text: &[u8]) -> Result<St
     ensures { IfOk result (λ report. string_bytes report ≡ report_of text.now outcome.now) }
 {
     match outcome {
-        Outcome::Ok { items, .. } => Ok(format!(in alloc; "accepted {items}\n")?),
-        Outcome::Malformed { file, at, what } => {
-            let file = file.as_str();
-            let place = place_in(text, *at);
-            let line = place.line;
-            let column = place.column;
-            let what = bad_text(alloc, what)?;
-            Ok(format!(in alloc; "{file}:{line}:{column}: malformed: {what}\n")?)
-        }
+        Outcome::Ok { items, .. } => accepted(alloc, *items),
+        Outcome::Malformed { file, at, what } => malformed(alloc, file.as_str(), text, *at, what),
         Outcome::Usage => {
             let usage = "usage: cdle core FILE.. | cdle build MODULE | cdle make N [--budget N]\n";
             Ok(String::from_str(alloc, usage)?)
@@ -38,22 +31,55 @@ pub(crate) fn report(alloc: Global, outcome: &Outcome, text: &[u8]) -> Result<St
             place: Spot::CoreSpot { item, path },
             budget,
         } => undecided(alloc, item.as_str(), path.numbers(), *budget),
-        Outcome::ReadFault { file } => {
-            let file = file.as_str();
-            Ok(format!(in alloc; "cannot read {file}\n")?)
-        }
+        Outcome::ReadFault { file } => unread(alloc, file.as_str()),
         Outcome::WriteFault { .. } => Ok(String::new(alloc)),
         Outcome::NoMemory => Err(NoMemory),
-        Outcome::Limit { name, what } => {
-            let name = name.as_str();
-            let what = count_text(*what);
-            Ok(format!(in alloc; "limit {name}: {what}\n")?)
-        }
-        Outcome::Missing { file } => {
-            let file = file.as_str();
-            Ok(format!(in alloc; "missing {file}\n")?)
-        }
+        Outcome::Limit { name, what } => past_limit(alloc, name.as_str(), *what),
+        Outcome::Missing { file } => missing(alloc, file.as_str()),
     }
+}
+
+fn accepted(alloc: Global, items: u32) -> Result<String, NoMemory>
+    ensures { IfOk result (λ report. string_bytes report ≡ accepted_line items) }
+{
+    Ok(format!(in alloc; "accepted {items}\n")?)
+}
+
+fn malformed(
+    alloc: Global,
+    file: &str,
+    text: &[u8],
+    at: u32,
+    what: &Badness,
+) -> Result<String, NoMemory>
+    requires short { length text.now < 4294967295 }
+    requires text { IsTextTo text.now at }
+    ensures { IfOk result (λ report. string_bytes report ≡ malformed_line file.now text.now at (bad_word what.now)) }
+{
+    let place = place_in(text, at);
+    let line = place.line;
+    let column = place.column;
+    let what = bad_text(alloc, what)?;
+    Ok(format!(in alloc; "{file}:{line}:{column}: malformed: {what}\n")?)
+}
+
+fn unread(alloc: Global, file: &str) -> Result<String, NoMemory>
+    ensures { IfOk result (λ report. string_bytes report ≡ cannot_read_line file.now) }
+{
+    Ok(format!(in alloc; "cannot read {file}\n")?)
+}
+
+fn past_limit(alloc: Global, name: &str, what: Count) -> Result<String, NoMemory>
+    ensures { IfOk result (λ report. string_bytes report ≡ limit_line name.now what) }
+{
+    let what = count_text(what);
+    Ok(format!(in alloc; "limit {name}: {what}\n")?)
+}
+
+fn missing(alloc: Global, file: &str) -> Result<String, NoMemory>
+    ensures { IfOk result (λ report. string_bytes report ≡ missing_line file.now) }
+{
+    Ok(format!(in alloc; "missing {file}\n")?)
 }
 
 fn refusal(alloc: Global, item: &str, path: &[u32], why: &Reason) -> Result<String, NoMemory>

@@ -1,21 +1,13 @@
 //! The program `cdle`, which checks Core files.
 //!
-//! `cdle_run` does all that the program does, over any folder and any sink, and its contract is the theorem of the product: `Ok` says that
-//! every file of the words was read to its end and that the list of all their items has a derivation by Core's rules, what it refuses has
-//! none, and every other answer has its cause. It stands on the command `core` (`build_drive`), the words (`cdle_words`), and the folder and
-//! sink (`cdle_folder`). `main` is the trusted edge: it fetches the words, and hands the real folder and the real output to `cdle_run`.
+//! `cdle_run` (`cdle_call`) does all that the program does, over any folder and any sink, and its contract is the theorem of the product. `main`
+//! is the trusted edge: it fetches the words, and hands the real folder and the real output to `cdle_run`.
 #![tactic(auto)]
 
-mod run;
-
-pub use build_drive::{Badness, Outcome, Reason, Spot};
+pub use cdle_call::{Badness, Exit, Outcome, Reason, Spot, cdle_run};
 use cdle_folder::{DirFolder, StdSink};
-pub use run::{Exit, cdle_run};
 use std::process::ExitCode;
 use std::{env, io};
-
-#[cfg(test)]
-mod tests;
 
 /// Memory was wanted and not there.
 const OUT_OF_MEMORY: u8 = 7;

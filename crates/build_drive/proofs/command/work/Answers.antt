@@ -1,9 +1,9 @@
 use Rattle.std.proofs.Common.{map, string_bytes}
 use Rattle.std.proofs.lemmas.Result.{err_from_is_err_and}
 use Rattle.core_check.specs.Items.{items_of}
-use Rattle.build_drive.specs.Checks.{IsVerdict}
-use Rattle.build_drive.specs.Sights.{Visit}
-use Rattle.build_drive.proofs.Works.{is_work}
+use Rattle.build_drive.specs.Checks.{IsVerdictAtSomeBudget}
+use Rattle.build_drive.specs.Traces.{FolderChange}
+use Rattle.build_drive.proofs.Progress.{is_traced}
 use Rattle.build_drive.proofs.command.work.Goals as goal
 
 pub returns-in_err-read-clause-ended : goal.returns-in_err-read-clause-ended
@@ -13,5 +13,5 @@ returns-in_err-read-clause-ended g c =
 
 pub returns-clause-done : goal.returns-clause-done
 returns-clause-done g c =
-    let v : Visit = record { before = g.F.Folder.state c.args.folder.now; after = g.F.Folder.state c.read_files.new.folder } in
-    is_work (IsVerdict c.args.budget) v (map string_bytes c.args.files.now.items) (items_of c.in_ok-read.read.items) c.in_ok-checked.field-0 (c.in_ok-read.ensures.read c.args.budget) c.in_ok-checked.ensures.verdict c.in_ok-checked.ensures.report
+    let v : FolderChange = record { before = g.F.Folder.state c.args.folder.now; after = g.F.Folder.state c.read_files.new.folder } in
+    is_traced (IsVerdictAtSomeBudget c.args.budget) v (map string_bytes c.args.files.now.items) (items_of c.in_ok-read.read.items) c.in_ok-checked.field-0 (c.in_ok-read.ensures.read c.args.budget) c.in_ok-checked.ensures.verdict c.in_ok-checked.ensures.report

@@ -1,0 +1,126 @@
+//! The top call.
+ghost use Rattle.std.specs.Prelude.{◌≡◌, ◌⊎◌, [], ℕ, List, None, Some, length, map, string_bytes};
+ghost use Rattle.cdle_folder.specs.Causes.{Quiet};
+ghost use Rattle.cdle_folder.specs.Files.{Bytes, Files};
+ghost use Rattle.cdle_model.specs.Check.{accepts, check_items};
+ghost use Rattle.cdle_model.specs.Forms.{Written};
+ghost use Rattle.cdle_words.specs.Words.{command_of, core};
+ghost use Rattle.build_drive.specs.Calls.{AreReadable, IsReported};
+ghost use Rattle.build_drive.specs.Reports.{status_of};
+ghost use Rattle.build_drive.specs.declared.outcome.Outcome.{Outcome as OutcomeOf};
+ghost use Rattle.build_drive.specs.declared.outcome.Outcome.TheVariants as outcomes;
+ghost use Rattle.build_drive.specs.declared.outcome.Reason.{Reason as ReasonOf};
+ghost use Rattle.build_drive.specs.declared.outcome.Spot.{Spot as SpotOf};
+ghost use Rattle.cdle_call.specs.Run.{Ends, IsRun, bytes_put};
+ghost use Rattle.cdle_call.specs.Work.{IsAccepted, IsDetermined, IsRefused, IsSpent, IsWanting, IsWork};
+
+use build_drive::{Done, Outcome, core_command};
+use cdle_folder::{Folder, Sink};
+use cdle_words::{Asked, WordsFault, command_asked};
+use std::alloc::Global;
+
+/// The end of a call: the program's status, and its cause.
+#[derive(Drop)]
+pub struct Exit {
+    pub status: u8,
+    pub outcome: Outcome,
+}
+
+/// Does what the words ask for, over the folder, and puts one report.
+pub fn cdle_run<F: Folder, S: Sink>(
+    alloc: Global,
+    words: &Vec<String>,
+    folder: &mut F,
+    out: &mut S,
+) -> Exit
+    ensures status { result.status ≡ status_of result.outcome }
+
+    // The end of the call with its cause: what the words ask for, the trace over the files and what they say, and what became of the report.
+    ensures call { IsRun (command_of (map string_bytes words.now.items))
+        (record { before = F.state folder.old; after = F.state folder.new })
+        (record { before = S.state out.old; after = S.state out.new }) result.outcome }
+
+    // Usage is answered only where the words are no command; that it is answered where they are none is said under `call` and `exact`.
+    ensures usage { result.outcome ≡ outcomes.Usage → command_of (map string_bytes words.now.items) ≡ None }
+
+    // Accepted: each file of the words is read to its end, in their order, and the list of all items has a derivation.
+    ensures accepted { (modules items : ℕ) → result.outcome ≡ outcomes.Ok modules items → IsAccepted (command_of (map string_bytes words.now.items))
+        (record { before = F.state folder.old; after = F.state folder.new }) items }
+
+    // Refused: likewise each file is read, and the items up to the one that is named have no derivation.
+    ensures refused { (place : SpotOf) (why : ReasonOf) → result.outcome ≡ outcomes.Refused place why → IsRefused (command_of (map string_bytes words.now.items))
+        (record { before = F.state folder.old; after = F.state folder.new }) place }
+
+    // Undecided: likewise each file is read; the question at that place is spent with the words' budget, and so is the plain check of all items,
+    // there or earlier.
+    ensures undecided { (place : SpotOf) (units : ℕ) → result.outcome ≡ outcomes.Undecided place units → IsSpent (command_of (map string_bytes words.now.items))
+        (record { before = F.state folder.old; after = F.state folder.new }) place units }
+
+    // No file is written.
+    ensures files { (F.state folder.new).files ≡ (F.state folder.old).files }
+
+    // Where the folder tells its files, and no fault of folder or sink is counted, there is one outcome, which the words and the files determine
+    // where the plain check with the words' budget is not spent; only want of memory may be answered in its place.
+    ensures exact { (f : Files) (o : OutcomeOf) → (F.state folder.old).files ≡ Some f → Quiet (F.state folder.old).read_faults (F.state folder.new).read_faults
+        → Quiet (S.state out.old).faults (S.state out.new).faults → IsDetermined (command_of (map string_bytes words.now.items)) f o
+        → (result.outcome ≡ o) ⊎ (result.outcome ≡ outcomes.NoMemory) }
+
+    // So it accepts wherever the files of the words are there, within the limits, and the plain check with the words' budget accepts their items.
+    ensures complete { (f : Files) (files : List Bytes) (budget : ℕ) (all : List Written) → (F.state folder.old).files ≡ Some f
+        → Quiet (F.state folder.old).read_faults (F.state folder.new).read_faults → Quiet (S.state out.old).faults (S.state out.new).faults
+        → command_of (map string_bytes words.now.items) ≡ Some (core files budget) → AreReadable f [] files all → check_items budget all ≡ accepts
+        → (result.outcome ≡ outcomes.Ok 0 (length all)) ⊎ (result.outcome ≡ outcomes.NoMemory) }
+{
+    let done = work(alloc, words, folder);
+    let outcome = put_report(done, out);
+    Exit {
+        status: outcome.status(),
+        outcome,
+    }
+}
+
+/// Does what the words ask for.
+fn work<F: Folder>(alloc: Global, words: &Vec<String>, folder: &mut F) -> Done
+    ensures files { (F.state folder.new).files ≡ (F.state folder.old).files }
+    ensures work { IsWork (command_of (map string_bytes words.now.items))
+        (record { before = F.state folder.old; after = F.state folder.new }) result }
+{
+    match command_asked(alloc, words) {
+        Ok(Asked::Core { files, budget }) => core_command(alloc, &files, budget, folder),
+        Err(WordsFault::Usage) => usage(alloc),
+        Err(WordsFault::NoMemory) => Done::no_memory(alloc),
+    }
+}
+
+/// That the words are no command, reported where there is memory.
+fn usage(alloc: Global) -> Done
+    ensures { IsWanting result ⊎ (result.outcome ≡ outcomes.Usage) × IsReported [] result }
+{
+    match Done::new(alloc, Outcome::Usage, b"") {
+        Ok(done) => done,
+        Err(_) => Done::no_memory(alloc),
+    }
+}
+
+/// Puts the report; the outcome stands where that is done.
+fn put_report<S: Sink>(done: Done, out: &mut S) -> Outcome
+    ensures { Ends (record { before = S.state out.old; after = S.state out.new }) (bytes_put done.outcome done.report.items) done.outcome result }
+{
+    match out.put(bytes_of(&done)) {
+        Ok(()) => done.outcome,
+        Err(_) => {
+            drop(done);
+            Outcome::WriteFault { file: None }
+        }
+    }
+}
+
+/// The bytes that are put. That memory is wanting is said without any.
+fn bytes_of(done: &Done) -> &[u8]
+    ensures { result.now ≡ bytes_put done.now.outcome done.now.report.items }
+{
+    match &done.outcome {
+        Outcome::NoMemory => b"out of memory\n",
+        _ => &done.report,
+    }
+}

@@ -1,0 +1,407 @@
+//! The worked calls of `core` over folders in memory, whose reports and statuses were written down by hand.
+use cdle_call::{Exit, Outcome, cdle_run};
+use cdle_folder::{Folder, MemoryFolder, MemorySink, SureFolder};
+use std::alloc::Global;
+use std::test::Fail;
+
+const IDENTITY: &str = "core 1\n(def id (allt X * (pi x X X)) (xlam X * (lam x X x)))\n";
+
+/// The end of the call with the words of this line, which single spaces part, and the report that was put, as text.
+fn run<F: Folder>(
+    alloc: Global,
+    line: &str,
+    folder: &mut F,
+    fail_puts: Vec<u32>,
+) -> Result<(Exit, String), Fail> {
+    let mut words = Vec::new(alloc);
+    for word in line.split(' ') {
+        words.push(String::from_str(alloc, word)?)?;
+    }
+    let mut out = MemorySink::new(alloc, fail_puts, 4096)?;
+    let exit = cdle_run(alloc, &words, folder, &mut out);
+    let report = String::from_utf8_lossy(alloc, out.bytes())?;
+    Ok((exit, report))
+}
+
+/// The status and the report of the line over one file, `a.core`, as one text.
+fn answer(alloc: Global, line: &str, text: &[u8]) -> Result<String, Fail> {
+    let mut folder = SureFolder::new(alloc);
+    folder.add("a.core", text)?;
+    let (exit, report) = run(alloc, line, &mut folder, Vec::new(alloc))?;
+    let status = exit.status;
+    Ok(format!(in alloc; "{status} {report}")?)
+}
+
+/// The same of `core a.core`, where the file is this behind its first line.
+fn answer_of(alloc: Global, items: &str) -> Result<String, Fail> {
+    let text = format!(in alloc; "core 1\n{items}\n")?;
+    answer(alloc, "core a.core", text.as_bytes())
+}
+
+#[test]
+fn accepted_items(rt: HostRuntime) -> Result<(), Fail> {
+    let alloc = rt.alloc();
+    let rows = [
+        "(def id (allt X * (pi x X X)) (xlam X * (lam x X x)))",
+        "(def shadowed (allt X * (pi x X X)) (xlam X * (lam id X id)))",
+        "(def p (allt A * (iota z (pi x (pi y A A) (pi y A A)) (pi x (pi y A A) (pi y A A)))) (xlam A * (pair (lam x (pi y A A) x) (lam x (pi y A A) (lam y A (app x y))) z (pi x (pi y A A) (pi y A A)))))",
+        "(def k (allt X * (pi a X (eq (ap (ap (fn u (fn v u)) a) (ap (fn w (ap w w)) (fn w (ap w w)))) a))) (xlam X * (lam a X (beta a (fn y y)))))",
+        "(def r (allt X * (pi a X (pi b X (pi q (eq a b) X)))) (xlam X * (lam a X (lam b X (lam q (eq a b) (rho q x X X a))))))",
+        "(def s (allt X * (pi a X (pi b X (pi q (eq a b) (eq b a))))) (xlam X * (lam a X (lam b X (lam q (eq a b) (rho q x (eq b x) (eq b a) (beta b q)))))))",
+    ];
+    for item in rows.iter() {
+        assert_eq!(rt;
+            answer_of(alloc, item)?.as_str(),
+            "0 accepted 1\n",
+            "of {item}"
+        );
+    }
+    let two =
+        "(type Arr (kpit A * (kpit B * *)) (xtlam A * (xtlam B * (pi x A B))))(def id (allt X * (on (on Arr X) X)) (xlam X * (lam x X x)))";
+    assert_eq!(rt; answer_of(alloc, two)?.as_str(), "0 accepted 2\n");
+    Ok(())
+}
+
+#[test]
+fn refused_items(rt: HostRuntime) -> Result<(), Fail> {
+    let alloc = rt.alloc();
+    let rows = [
+        (
+            "(def a (allt X * (pi x X X)) (xlam X * (lam x X (app x x))))",
+            "3 refused a at 2/2/2/1: not a function\n",
+        ),
+        (
+            "(def a (allt X * (pi x X X)) (xlam X * (lam x X (fst x))))",
+            "3 refused a at 2/2/2/1: not an intersection\n",
+        ),
+        (
+            "(def a (allt X * (pi x X X)) (xlam X * (lam x X (phi x x x))))",
+            "3 refused a at 2/2/2/1: not an equation\n",
+        ),
+        (
+            "(type a * (allt F (kpit X * *) F))",
+            "3 refused a at 2/2: wrong kind\n",
+        ),
+        (
+            "(def a (allt X * (allt Y * (pi x X Y))) (xlam X * (xlam Y * (lam x X x))))",
+            "3 refused a at 2: mismatch\n",
+        ),
+        (
+            "(def f (allt X * (all x X X)) (xlam X * (elam x X x)))",
+            "3 refused f at 2/2: erased variable used\n",
+        ),
+        (
+            "(def g (allt X * (all x X (eq (fn y y) (fn y y)))) (xlam X * (elam x X (beta (fn y y) x))))",
+            "3 refused g at 2/2: erased variable used\n",
+        ),
+        (
+            "(def a (allt X * (iota w (pi x X X) (eq (fn y y) (fn y y)))) (xlam X * (pair (lam x X x) (beta (fn y y) (fn y (fn z z))) w (eq (fn y y) (fn y y)))))",
+            "3 refused a at 2/2: parts differ\n",
+        ),
+        (
+            "(def a (allt X * (pi x X (allt Y * Y))) (xlam X * (lam x X (xlam Y * (delta Y (beta x x))))))",
+            "3 refused a at 2/2/2/2: not booleans\n",
+        ),
+        (
+            "(def s (allt X * (pi a X (pi b X (pi q (eq a b) (eq b a))))) (xlam X * (lam a X (lam b X (lam q (eq a b) (rho q x (eq x a) (eq b a) (beta a q)))))))",
+            "3 refused s at 2/2/2/2/2: sides differ\n",
+        ),
+        (
+            "(type t * (allt X * X))(type t * (allt X * X))",
+            "3 refused t: duplicate\n",
+        ),
+    ];
+    for (items, wanted) in rows.iter() {
+        assert_eq!(rt; answer_of(alloc, items)?.as_str(), *wanted, "of {items}");
+    }
+    Ok(())
+}
+
+#[test]
+fn malformed_texts(rt: HostRuntime) -> Result<(), Fail> {
+    let alloc = rt.alloc();
+    let rows: [(&[u8], &str); 18] = [
+        (b"cor", "1:1: malformed: wanted core"),
+        (b"core 2", "1:6: malformed: wanted 1"),
+        (b"core 1 \xc3\xa9", "1:8: malformed: wanted item"),
+        (b"core 1\n(let a", "2:2: malformed: wanted item"),
+        (b"core 1\n(def (a", "2:6: malformed: wanted name"),
+        (b"core 1\n(type a (allt", "2:10: malformed: wanted kind"),
+        (b"core 1\n(def a", "2:7: malformed: wanted type"),
+        (
+            b"core 1\n(def a (allt X * X) (pi x x x))",
+            "2:22: malformed: wanted term",
+        ),
+        (
+            b"core 1\n(def e (eq (fn x x) (fn x",
+            "2:26: malformed: wanted pure term",
+        ),
+        (
+            b"core 1\n(def a (allt X * (pi q X X)) (xlam X * (lam q X (rho q x (fn",
+            "2:59: malformed: wanted guide",
+        ),
+        (
+            b"core 1\n(def a (allt X * (pi q X X)) (xlam X * (lam q X (rho q x (allt Y (pi",
+            "2:67: malformed: wanted guide kind",
+        ),
+        (
+            b"core 1\n(type t * (allt X * X) X)",
+            "2:24: malformed: wanted )",
+        ),
+        (
+            b"core 1\n(def id (allt X * (pi x X X)) (lam x X x))",
+            "2:38: malformed: unbound X",
+        ),
+        (
+            b"core 1\n(def a (allt Y * Y) a)",
+            "2:21: malformed: unbound a",
+        ),
+        (
+            b"core 1\n(type X * (allt Y * Y))\n(def a X X)",
+            "3:10: malformed: wrong class X",
+        ),
+        (
+            b"core 1 ; \xc3\xa9\n(def \xc3\xa9 (allt X * X) (app X",
+            "2:26: malformed: unbound X",
+        ),
+        (b"core 1\xff", "1:7: malformed: not UTF-8"),
+        (b"cor\n\xff", "2:1: malformed: not UTF-8"),
+    ];
+    for (text, wanted) in rows.iter() {
+        let wanted = format!(in alloc; "1 a.core:{wanted}\n")?;
+        assert_eq!(rt;
+            answer(alloc, "core a.core", text)?.as_str(),
+            wanted.as_str()
+        );
+    }
+    Ok(())
+}
+
+/// This many copies of the first, then the middle, then as many of the last.
+fn nested(alloc: Global, copies: usize, parts: [&str; 3]) -> Result<String, Fail> {
+    let [before, middle, after] = parts;
+    let before = before.repeat(alloc, copies)?;
+    let after = after.repeat(alloc, copies)?;
+    Ok(format!(in alloc; "{before}{middle}{after}")?)
+}
+
+#[test]
+fn limits(rt: HostRuntime) -> Result<(), Fail> {
+    let alloc = rt.alloc();
+    let mut text = Vec::from_slice(alloc, b"core 1")?;
+    text.resize(1_048_576, b' ')?;
+    assert_eq!(rt;
+        answer(alloc, "core a.core", &text)?.as_str(),
+        "0 accepted 0\n"
+    );
+    text.push(b' ')?;
+    assert_eq!(rt;
+        answer(alloc, "core a.core", &text)?.as_str(),
+        "9 limit a.core: bytes\n"
+    );
+
+    // The item's own parenthesis, and so many in it.
+    let rows = [
+        (1023, "3 refused t at 2: wrong kind\n"),
+        (1024, "9 limit a.core: nesting\n"),
+    ];
+    for (deep, wanted) in rows.iter() {
+        let kind = nested(alloc, *deep, ["(kpit X * ", "*", ")"])?;
+        let item = format!(in alloc; "(type t {kind} (allt Y * Y))")?;
+        assert_eq!(rt; answer_of(alloc, &item)?.as_str(), *wanted);
+    }
+
+    let mut items = String::new(alloc);
+    for number in 0..10_000u32 {
+        items.push_str(&format!(in alloc; "(type t{number} * (allt X * X))\n")?)?;
+    }
+    assert_eq!(rt; answer_of(alloc, &items)?.as_str(), "0 accepted 10000\n");
+    items.push_str("(type t * (allt X * X))")?;
+    assert_eq!(rt;
+        answer_of(alloc, &items)?.as_str(),
+        "9 limit a.core: items\n"
+    );
+    Ok(())
+}
+
+#[test]
+fn budgets(rt: HostRuntime) -> Result<(), Fail> {
+    let alloc = rt.alloc();
+    let omega =
+        "(def o (eq (ap (fn w (ap w w)) (fn w (ap w w))) (fn x x)) (beta (fn x x) (fn x x)))";
+    let twice = nested(alloc, 20, ["(ap (fn x (ap x x)) ", "(fn y y)", ")"])?;
+    let tower = format!(in alloc; "(def d (eq {twice} (fn y y)) (beta (fn y y) (fn y y)))")?;
+    let grow = "(fn x (fn a (ap (ap x x) (ap (fn y y) a))))";
+    let deep = format!(in alloc;
+        "(def h (eq (ap (ap {grow} {grow}) (fn z z)) (fn x x)) (beta (fn x x) (fn x x)))"
+    )?;
+    let rows = [
+        (omega, "core a.core", "4 undecided o at 2: budget 200000\n"),
+        (
+            omega,
+            "core --budget 7 a.core",
+            "4 undecided o at 2: budget 7\n",
+        ),
+        (&tower, "core a.core", "4 undecided d at 2: budget 200000\n"),
+        (&tower, "core --budget 3000000 a.core", "0 accepted 1\n"),
+        (&deep, "core a.core", "9 limit h: depth\n"),
+        (
+            &deep,
+            "core --budget 1000 a.core",
+            "4 undecided h at 2: budget 1000\n",
+        ),
+        (
+            &deep,
+            "core --budget 8191 a.core",
+            "4 undecided h at 2: budget 8191\n",
+        ),
+        (&deep, "core --budget 8192 a.core", "9 limit h: depth\n"),
+    ];
+    for (item, line, wanted) in rows.iter() {
+        let text = format!(in alloc; "core 1\n{item}\n")?;
+        assert_eq!(rt; answer(alloc, line, text.as_bytes())?.as_str(), *wanted);
+    }
+    Ok(())
+}
+
+#[test]
+fn words(rt: HostRuntime) -> Result<(), Fail> {
+    let alloc = rt.alloc();
+    let usage = "2 usage: cdle core FILE.. | cdle build MODULE | cdle make N [--budget N]\n";
+    let rows = [
+        "",
+        "core",
+        "core --budget 0 a.core",
+        "core --budget=10000001 a.core",
+        "core --budget 5 --budget 6 a.core",
+        "core --budget -5 a.core",
+        "core --budget 000000005 a.core",
+        "core --budget a.core",
+        "core -x",
+        "core --",
+        "core --help",
+        "Core a.core",
+        "build a",
+        "make 4",
+    ];
+    for line in rows.iter() {
+        assert_eq!(rt;
+            answer(alloc, line, b"core 1")?.as_str(),
+            usage,
+            "of {line}"
+        );
+    }
+    let rows = [
+        "core a.core",
+        "core --budget=1 a.core",
+        "core a.core --budget 00000001",
+        "core --budget 10000000 -- a.core",
+    ];
+    for line in rows.iter() {
+        assert_eq!(rt;
+            answer(alloc, line, b"core 1")?.as_str(),
+            "0 accepted 0\n",
+            "of {line}"
+        );
+    }
+    let mut out = MemorySink::new(alloc, Vec::new(alloc), 4096)?;
+    let exit = cdle_run(
+        alloc,
+        &Vec::new(alloc),
+        &mut SureFolder::new(alloc),
+        &mut out,
+    );
+    assert!(rt; matches!(exit.outcome, Outcome::Usage));
+    Ok(())
+}
+
+#[test]
+fn several_files(rt: HostRuntime) -> Result<(), Fail> {
+    let alloc = rt.alloc();
+    let mut folder = SureFolder::new(alloc);
+    folder.add("p.core", b"core 1\n(type T * (allt X * (pi x X X)))\n")?;
+    folder.add("q.core", b"core 1\n(def i T (xlam X * (lam x X x)))\n")?;
+    folder.add("cut.core", b"core 1\n(def")?;
+    folder.add("-x", IDENTITY.as_bytes())?;
+    let rows = [
+        ("core p.core q.core", 0, "accepted 2\n"),
+        (
+            "core q.core p.core",
+            1,
+            "q.core:2:8: malformed: unbound T\n",
+        ),
+        ("core p.core p.core", 3, "refused T: duplicate\n"),
+        ("core p.core -- -x q.core", 0, "accepted 3\n"),
+        (
+            "core cut.core none",
+            1,
+            "cut.core:2:5: malformed: wanted name\n",
+        ),
+        ("core none cut.core", 10, "missing none\n"),
+        ("core p.core p.core none", 10, "missing none\n"),
+    ];
+    for (line, status, wanted) in rows.iter() {
+        let (exit, report) = run(alloc, line, &mut folder, Vec::new(alloc))?;
+        assert_eq!(rt; report.as_str(), *wanted, "of {line}");
+        assert_eq!(rt; exit.status, *status, "of {line}");
+    }
+    Ok(())
+}
+
+/// The numbers of the calls that fail: this one.
+fn only(alloc: Global, call: u32) -> Result<Vec<u32>, Fail> {
+    let mut calls = Vec::new(alloc);
+    calls.push(call)?;
+    Ok(calls)
+}
+
+/// The same of `core a.core b.core`, where this call on the folder fails.
+fn answer_where_fails(alloc: Global, call: u32) -> Result<String, Fail> {
+    let mut folder = MemoryFolder::new(alloc, only(alloc, call)?);
+    folder.add("a.core", IDENTITY.as_bytes())?;
+    folder.add("b.core", IDENTITY.as_bytes())?;
+    let (exit, report) = run(alloc, "core a.core b.core", &mut folder, Vec::new(alloc))?;
+    let status = exit.status;
+    Ok(format!(in alloc; "{status} {report}")?)
+}
+
+#[test]
+fn failing_reads(rt: HostRuntime) -> Result<(), Fail> {
+    let alloc = rt.alloc();
+    let rows = [
+        (0, "5 cannot read a.core\n"),
+        (1, "5 cannot read b.core\n"),
+        (2, "3 refused id: duplicate\n"),
+    ];
+    for (call, wanted) in rows.iter() {
+        assert_eq!(rt; answer_where_fails(alloc, *call)?.as_str(), *wanted);
+    }
+    Ok(())
+}
+
+/// The end of `core a.core` over the identity, where this put fails, and what went out.
+fn identity_where_fails(alloc: Global, put: u32) -> Result<(Exit, String), Fail> {
+    let mut folder = SureFolder::new(alloc);
+    folder.add("a.core", IDENTITY.as_bytes())?;
+    run(alloc, "core a.core", &mut folder, only(alloc, put)?)
+}
+
+#[test]
+fn failing_puts(rt: HostRuntime) -> Result<(), Fail> {
+    let alloc = rt.alloc();
+    let (exit, report) = identity_where_fails(alloc, 0)?;
+    assert!(rt; report.is_empty() && exit.status == 6);
+    assert!(rt; matches!(&exit.outcome, Outcome::WriteFault { file: None }));
+    let (exit, report) = identity_where_fails(alloc, 1)?;
+    assert!(rt; report.as_str() == "accepted 1\n" && exit.status == 0);
+    assert!(rt;
+        matches!(
+            &exit.outcome,
+            Outcome::Ok {
+                modules: 0,
+                items: 1
+            }
+        )
+    );
+    Ok(())
+}
