@@ -4,9 +4,11 @@ use Rattle.cdle_model.specs.declared.grammar.Sort.{Sort}
 use Rattle.cdle_model.specs.Trees.{Tree}
 use Rattle.cdle_model.specs.Machine.{run, spent}
 use Rattle.cdle_model.specs.HeadForms.{deep}
-use Rattle.cdle_model.specs.Comparison.{Pair, into, differ, split, halted, pairs, take_pair, move}
+use Rattle.cdle_model.specs.Comparison.{Pair, applied, into, differ, split, halted, pairs, take_pair, move}
 use Rattle.core_reduce.specs.declared.side.SideClass.{SideClass}
+use Rattle.core_reduce.specs.declared.side.SideClass.TheVariants.{OfPure}
 use Rattle.core_reduce.specs.declared.value.Value.{Value}
+use Rattle.core_reduce.specs.declared.value.Value.TheVariants as w
 use Rattle.core_reduce.specs.declared.reduce.Stop.{Stop}
 use Rattle.core_reduce.specs.declared.reduce.Stop.TheVariants.{Spent, TooDeep, NoMemory}
 use Rattle.core_reduce.specs.Sides.{Sided, class_trees}
@@ -68,6 +70,11 @@ pub record SettledInto (binders : ℕ) (v w : Value) (old new : List SidePair) :
 abbrev pub MeetsSettle : ℕ → Value → Value → List SidePair → List SidePair → Bool → Type 0
 MeetsSettle binders v w old new true = SettledInto binders v w old new
 MeetsSettle binders v w old new false = (k : SideClass) → IsForm k v → IsForm k w → split (value_tree k v) (value_tree k w) ≡ differ
+
+-- what is compared of a pure head form under a new variable: a function's body, or a variable with its arguments applied to the new variable
+abbrev pub body_side : Value → Sided
+body_side (w.Fun b) = b
+body_side v = record { class = OfPure; tree = applied (value_tree OfPure v) }
 
 -- a pair led to the list that is left
 pub record TurnOn (xs : List Sort) (s : List Tree) (l r : Tree) (old new : List SidePair) (units left : ℕ) : Type 0 where

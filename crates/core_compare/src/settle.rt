@@ -1,7 +1,8 @@
 //! The pairs in place of two head forms.
 ghost use Rattle.std.specs.Prelude.{◌≡◌, ◌+◌, ◌++◌, ◌≤◌, ◌∷◌, [], ◌↔◌, IfOk, IsTrue};
-ghost use Rattle.core_reduce.specs.Values.{classes};
-ghost use Rattle.core_compare.specs.Pairs.{AreForms, MeetsArguments, MeetsSettle, part_pairs};
+ghost use Rattle.core_reduce.specs.Values.{IsValueOf, classes};
+ghost use Rattle.core_reduce.specs.declared.side.SideClass.TheVariants.{OfPure};
+ghost use Rattle.core_compare.specs.Pairs.{AreForms, MeetsArguments, MeetsSettle, body_side, part_pairs};
 
 use crate::pairs::SidePair;
 use cdle_model::NoMemory;
@@ -20,16 +21,16 @@ pub(crate) fn settle(
     ensures { IfOk result (λ b. MeetsSettle binders left.now right.now pairs.old.items pairs.new.items b) }
 {
     match (left, right) {
-        (Value::Fun(left), Value::Fun(right)) => {
-            put_bodies(left.copy()?, right.copy()?, binders, pairs)?;
+        (Value::Fun(_), Value::Fun(_)) => {
+            put_bodies(alloc, left, right, binders, pairs)?;
             Ok(true)
         }
-        (Value::Fun(left), Value::Var { .. }) => {
-            put_bodies(left.copy()?, right.applied(alloc)?, binders, pairs)?;
+        (Value::Fun(_), Value::Var { .. }) => {
+            put_bodies(alloc, left, right, binders, pairs)?;
             Ok(true)
         }
-        (Value::Var { .. }, Value::Fun(right)) => {
-            put_bodies(left.applied(alloc)?, right.copy()?, binders, pairs)?;
+        (Value::Var { .. }, Value::Fun(_)) => {
+            put_bodies(alloc, left, right, binders, pairs)?;
             Ok(true)
         }
         (Value::Var { var: i, args: xs }, Value::Var { var: j, args: ys }) => {
@@ -71,22 +72,38 @@ fn one_more(binders: u32) -> Result<u32, NoMemory>
     Ok(binders + 1)
 }
 
-/// Puts the bodies of two functions on the list.
+/// Puts what two pure head forms are under a new variable on the list.
 fn put_bodies(
-    left: Side,
-    right: Side,
+    alloc: Global,
+    left: &Value,
+    right: &Value,
     binders: u32,
     pairs: &mut Vec<SidePair>,
 ) -> Result<(), NoMemory>
-    ensures { IfOk result (λ _. (binders + 1 ≤ 40000000) × (pairs.new.items ≡ pairs.old.items ++ record { left = left; right = right; binders = binders + 1 } ∷ [])) }
+    requires left { IsValueOf OfPure left.now }
+    requires right { IsValueOf OfPure right.now }
+    ensures { IfOk result (λ _. (binders + 1 ≤ 40000000) × (pairs.new.items ≡ pairs.old.items ++ record { left = body_side left.now; right = body_side right.now; binders = binders + 1 } ∷ [])) }
 {
     let binders = one_more(binders)?;
+    let left = body(alloc, left)?;
+    let right = body(alloc, right)?;
     pairs.push(SidePair {
         left,
         right,
         binders,
     })?;
     Ok(())
+}
+
+/// The body of a function, or a variable with its arguments applied to the new variable.
+fn body(alloc: Global, value: &Value) -> Result<Side, NoMemory>
+    requires { IsValueOf OfPure value.now }
+    ensures { IfOk result (λ s. s ≡ body_side value.now) }
+{
+    match value {
+        Value::Fun(body) => body.copy(),
+        _ => value.applied(alloc),
+    }
 }
 
 /// Puts the pairs of the arguments of one variable on the list; false where they are not as many, or not of the same classes.

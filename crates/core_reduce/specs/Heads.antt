@@ -92,6 +92,11 @@ pub record Halts (s : List Tree) (h : Tree) (xs : List Arg) (old : ℕ) : Type 0
   pub is : head_step s (spine h xs) ≡ none → ⊥
   pub units : old ≡ 0
 
+-- the head that is reached where a move was made
+abbrev pub reached : Root → Result Unit Stop → Result Root Stop
+reached h (Ok x) = Ok h
+reached h (Err e) = Err e
+
 abbrev pub MeetsStep : List Tree → SideClass → Tree → List Arg → ℕ → List Arg → ℕ → Result Root Stop → Type 0
 MeetsStep s k h xs old ys new (Ok r) = (root_class r ≡ k) × (Unwound h xs old (root_tree r) ys new ⊎ Stepped s h xs old (root_tree r) ys new)
 MeetsStep s k h xs old ys new (Err Spent) = Halts s h xs old

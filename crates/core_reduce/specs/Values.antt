@@ -1,5 +1,5 @@
 -- Head forms: the trees for which values stand.
-use Rattle.std.specs.Prelude.{◌≡◌, ◌<◌, ◌≤◌, List, [], ◌∷◌, Option, Some, None}
+use Rattle.std.specs.Prelude.{◌≡◌, ◌<◌, List, [], ◌∷◌}
 use Rattle.cdle_model.specs.Trees.{Function, of_pure, of_term, of_type, Tree, var, apply}
 use Rattle.cdle_model.specs.Forms.{star, kpi, kpit, pi, all, allt, guide_tlam, guide_xtlam, at_, on, iota, eq, fn}
 use Rattle.cdle_model.specs.Depth.{depth}
@@ -10,8 +10,8 @@ use Rattle.core_reduce.specs.declared.value.Former.{Former}
 use Rattle.core_reduce.specs.declared.value.Former.TheVariants as f
 use Rattle.core_reduce.specs.declared.value.Value.{Value}
 use Rattle.core_reduce.specs.declared.value.Value.TheVariants as v
-use Rattle.core_reduce.specs.declared.root.Root.{Root}
-use Rattle.core_reduce.specs.Sides.{Sided, sided}
+use Rattle.core_reduce.specs.declared.whole.Whole.{Whole}
+use Rattle.core_reduce.specs.Sides.{Sided, whole_sided}
 
 -- by what a tree of the first class is applied to one of the second
 abbrev pub applied_by : SideClass → SideClass → Function
@@ -111,7 +111,6 @@ IsWhole v = Unit {0}
 abbrev pub StandsFor : SideClass → Value → Tree → Type 0
 StandsFor k v t = IsValueOf k v × (value_tree k v ≡ t) × IsWhole v
 
--- what stands for the tree as one, where one more form may stand over it
-abbrev pub IsPart : Sided → Option Root → Type 0
-IsPart s (Some r) = (sided r ≡ s) × (depth s.tree < 4096)
-IsPart s None = 4096 ≤ depth s.tree
+-- the tree is the side's, and one more form may stand over it
+abbrev pub IsPart : Sided → Whole → Type 0
+IsPart s r = (whole_sided r ≡ s) × (depth s.tree < 4096)

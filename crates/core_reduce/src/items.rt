@@ -11,6 +11,7 @@ ghost use Rattle.core_reduce.specs.Sides.{class_trees, root_class, root_tree};
 use crate::root::Root;
 use cdle_model::NoMemory;
 use core_tree::CoreItem;
+use core_view::{GuideView, PureView};
 use std::alloc::Global;
 use std::marker::Model;
 
@@ -61,7 +62,7 @@ impl CheckedItems {
         if self.items.len() >= 4_294_967_295 {
             return Err(NoMemory);
         }
-        let body = erased_body(alloc, item)?;
+        let body = erased_body(item)?;
         let item = item.copy(alloc)?;
         self.items.push(CheckedItem { item, body })?;
         Ok(())
@@ -101,12 +102,12 @@ impl CheckedItems {
     }
 }
 
-fn erased_body(alloc: Global, item: &CoreItem) -> Result<Root, NoMemory>
+fn erased_body(item: &CoreItem) -> Result<Root, NoMemory>
     requires { ItemHasErasures (written item.now) }
     ensures { IfOk result (λ body. IsBody item.now body) }
 {
     match item {
-        CoreItem::Def { body, .. } => Ok(Root::Pure(body.erase(alloc)?)),
-        CoreItem::TypeDef { body, .. } => Ok(Root::Guide(body.erase(alloc)?)),
+        CoreItem::Def { body, .. } => Ok(Root::Pure(PureView::of_term(body)?)),
+        CoreItem::TypeDef { body, .. } => Ok(Root::Guide(GuideView::of_type(body)?)),
     }
 }

@@ -1,19 +1,20 @@
 //! Head forms as trees.
-ghost use Rattle.std.specs.Prelude.{◌≡◌, ◌<◌, ◌∷◌, [], IfOk};
+ghost use Rattle.std.specs.Prelude.{◌≡◌, ◌<◌, ◌≤◌, ◌∷◌, [], IfOk, MatchOption};
 ghost use Rattle.cdle_model.specs.Depth.{depth};
 ghost use Rattle.cdle_model.specs.Forms.{fn};
 ghost use Rattle.cdle_model.specs.Trees.{apply, var};
-ghost use Rattle.core_reduce.specs.Sides.{root_class, root_tree, sided};
+ghost use Rattle.core_reduce.specs.Sides.{whole_class, whole_tree, whole_sided};
 ghost use Rattle.core_tree.specs.Faults.{IsKept};
 ghost use Rattle.core_reduce.specs.Values.{AreArguments, IsArgument, IsPart, IsValueOf, applied_by, applied_to, classes, former_class, former_parts, former_tree, value_tree};
 ghost use Rattle.core_reduce.specs.declared.side.SideClass.TheVariants.{OfPure, OfType, OfKind};
 
-use crate::root::Root;
 use crate::side::{Side, SideClass};
 use crate::value::{Former, Value};
+use crate::whole::Whole;
 use cdle_model::NoMemory;
 use core_tree::{Guide, GuideKind, Kept, Pure};
 use std::alloc::Global;
+use std::rc::Rc;
 
 impl Value {
     /// The pure term as one tree.
@@ -64,40 +65,39 @@ fn function(alloc: Global, body: &Side) -> Result<Kept<Pure>, NoMemory>
 }
 
 /// The side as one tree, unless it is too deep for one more form over it.
-fn part(alloc: Global, side: &Side) -> Result<Option<Root>, NoMemory>
-    ensures { IfOk result (λ o. IsPart side.now o) }
+fn part(alloc: Global, side: &Side) -> Result<Option<Rc<Whole>>, NoMemory>
+    ensures { IfOk result (λ o. MatchOption o (4096 ≤ depth side.now.tree) (λ r. IsPart side.now r.value)) }
 {
     match side.class() {
         SideClass::OfPure => {
             let Kept::Whole(tree) = side.tree_pure(alloc)? else {
                 return Ok(None)
             };
-            Ok(low(Root::Pure(tree)))
+            low(alloc, Whole::Pure(tree))
         }
         SideClass::OfType => {
             let Kept::Whole(tree) = side.tree_guide(alloc)? else {
                 return Ok(None)
             };
-            Ok(low(Root::Guide(tree)))
+            low(alloc, Whole::Guide(tree))
         }
         SideClass::OfKind => {
             let Kept::Whole(tree) = side.tree_kind()? else {
                 return Ok(None)
             };
-            Ok(low(Root::Kind(tree)))
+            low(alloc, Whole::Kind(tree))
         }
     }
 }
 
 /// The tree, unless it is too deep for one more form over it.
-fn low(tree: Root) -> Option<Root>
-    ensures { IsPart (sided tree) result }
+fn low(alloc: Global, tree: Whole) -> Result<Option<Rc<Whole>>, NoMemory>
+    ensures { IfOk result (λ o. MatchOption o (4096 ≤ depth (whole_tree tree)) (λ r. IsPart (whole_sided tree) r.value)) }
 {
-    if tree.depth() < 4096 {
-        Some(tree)
-    } else {
-        None
+    if tree.depth() >= 4096 {
+        return Ok(None);
     }
+    Ok(Some(Rc::new(alloc, tree)?))
 }
 
 fn pure_variable(alloc: Global, index: u32, args: &Vec<Side>) -> Result<Kept<Pure>, NoMemory>
@@ -155,10 +155,10 @@ fn guide_applied(alloc: Global, head: &Guide, arg: &Side) -> Result<Kept<Guide>,
     let Some(arg) = part(alloc, arg)? else {
         return Ok(Kept::Deep)
     };
-    match &arg {
-        Root::Pure(arg) => Ok(Kept::Whole(Guide::at(alloc, head, arg)?)),
-        Root::Guide(arg) => Ok(Kept::Whole(Guide::on(alloc, head, arg)?)),
-        Root::Kind(_) => unreachable!(),
+    match &*arg {
+        Whole::Pure(arg) => Ok(Kept::Whole(Guide::at(alloc, head, arg)?)),
+        Whole::Guide(arg) => Ok(Kept::Whole(Guide::on(alloc, head, arg)?)),
+        Whole::Kind(_) => unreachable!(),
     }
 }
 
@@ -208,12 +208,12 @@ fn guide_of_two(
 }
 
 /// The form over two trees.
-fn guide_over(alloc: Global, former: Former, left: &Root, right: &Root) -> Result<Guide, NoMemory>
+fn guide_over(alloc: Global, former: Former, left: &Whole, right: &Whole) -> Result<Guide, NoMemory>
     requires class { former_class former ≡ OfType }
-    requires parts { former_parts former ≡ root_class left.now ∷ root_class right.now ∷ [] }
-    requires left { depth (root_tree left.now) < 4096 }
-    requires right { depth (root_tree right.now) < 4096 }
-    ensures { IfOk result (λ t. t ≡ former_tree former (sided left.now ∷ sided right.now ∷ [])) }
+    requires parts { former_parts former ≡ whole_class left.now ∷ whole_class right.now ∷ [] }
+    requires left { depth (whole_tree left.now) < 4096 }
+    requires right { depth (whole_tree right.now) < 4096 }
+    ensures { IfOk result (λ t. t ≡ former_tree former (whole_sided left.now ∷ whole_sided right.now ∷ [])) }
 {
     match former {
         Former::Pi => Guide::pi(alloc, left.guide(), right.guide()),
@@ -258,9 +258,25 @@ fn kind_of_two(
     let Some(right) = part(alloc, right)? else {
         return Ok(Kept::Deep)
     };
+    Ok(Kept::Whole(kind_over(alloc, former, &left, &right)?))
+}
+
+/// The form over two trees.
+fn kind_over(
+    alloc: Global,
+    former: Former,
+    left: &Whole,
+    right: &Whole,
+) -> Result<GuideKind, NoMemory>
+    requires class { former_class former ≡ OfKind }
+    requires parts { former_parts former ≡ whole_class left.now ∷ whole_class right.now ∷ [] }
+    requires left { depth (whole_tree left.now) < 4096 }
+    requires right { depth (whole_tree right.now) < 4096 }
+    ensures { IfOk result (λ t. t ≡ former_tree former (whole_sided left.now ∷ whole_sided right.now ∷ [])) }
+{
     match former {
-        Former::Kpi => Ok(Kept::Whole(GuideKind::kpi(alloc, left.guide(), right.kind())?)),
-        Former::Kpit => Ok(Kept::Whole(GuideKind::kpit(alloc, left.kind(), right.kind())?)),
+        Former::Kpi => GuideKind::kpi(alloc, left.guide(), right.kind()),
+        Former::Kpit => GuideKind::kpit(alloc, left.kind(), right.kind()),
         _ => unreachable!(),
     }
 }

@@ -1,13 +1,14 @@
 //! Bringing a side to its head form.
-ghost use Rattle.std.specs.Prelude.{◌≡◌, ◌++◌, ◌<◌, ◌≤◌, ◌∷◌, [], IfOk, IsFalse, IsTrue, List, drop, length};
-ghost use Rattle.cdle_model.specs.Classes.{Fits, UsedAs, guides, item_sorts, pure_terms, within};
+ghost use Rattle.std.specs.Prelude.{◌≡◌, ℕ, ◌++◌, ◌<◌, ◌≤◌, ◌∷◌, [], IfOk, IsFalse, IsTrue, List, drop, length};
+ghost use Rattle.cdle_model.specs.Classes.{Fits, IsOf, UsedAs, guides, item_sorts, pure_terms, within};
 ghost use Rattle.cdle_model.specs.Derivation.{bodies, signature};
 ghost use Rattle.cdle_model.specs.Forms.{fn, guide_tlam, guide_xtlam};
-ghost use Rattle.cdle_model.specs.Trees.{IsBelow, Tree, name};
+ghost use Rattle.cdle_model.specs.Trees.{IsBelow, Tree, apply, name};
 ghost use Rattle.cdle_model.specs.declared.grammar.Sort.{Sort};
 ghost use Rattle.cdle_model.specs.declared.grammar.Sort.TheVariants.{OfTerm, OfType as OfTypes};
-ghost use Rattle.core_reduce.specs.Heads.{HeadSo, IsStill, MeetsHead, MeetsStep, innermost, put_stop_of, seen};
-ghost use Rattle.core_reduce.specs.Sides.{IsPlaced, class_trees, root_class, root_tree, spine};
+ghost use Rattle.core_reduce.specs.Heads.{HeadSo, IsStill, MeetsHead, MeetsStep, innermost, put_stop_of, reached, seen};
+ghost use Rattle.core_reduce.specs.Sides.{IsPlaced, arg_function, arg_tree, class_trees, root_class, root_tree, spine};
+ghost use Rattle.core_reduce.specs.Values.{StandsFor};
 ghost use Rattle.core_reduce.specs.declared.root.Arg.{Arg};
 ghost use Rattle.core_reduce.specs.declared.root.Arg.TheVariants.{Ap, At, On};
 ghost use Rattle.core_reduce.specs.declared.side.SideClass.{SideClass};
@@ -16,11 +17,12 @@ ghost use Rattle.core_reduce.specs.declared.reduce.Stop.TheVariants.{NoMemory as
 
 use crate::budget::Budget;
 use crate::items::CheckedItems;
-use crate::root::{Arg, Root};
+use crate::root::{Applied, Arg, Root};
 use crate::side::Side;
 use crate::value::{Value, value_of};
 use cdle_model::NoMemory;
 use core_tree::{Guide, GuideForm, Pure, PureForm, PutStop};
+use core_view::{GuideTop, GuideView, GuideViewForm, PureTop, PureView, PureViewForm};
 use std::alloc::{AllocError, AllocFailed, Global};
 use std::rc::Rc;
 
@@ -70,11 +72,11 @@ pub fn head(
     ensures so { HeadSo (bodies (signature items.now)) at.now.class at.now.tree budget.old.left result }
     ensures less { budget.new.left ≤ budget.old.left }
 {
-    if is_still(&at.head, &at.args, at.from) {
-        return Ok(value_of(alloc, &at.head, &at.args, at.from)?);
+    if is_still(&at.node.head, &at.node.args, at.from) {
+        return Ok(value_of(alloc, &at.node, at.from)?);
     }
-    let now = at.head.share()?;
-    let args = copy(alloc, &at.args, at.from)?;
+    let args = copy(alloc, &at.node.args, at.from)?;
+    let now = at.node.head.share()?;
     reduce(alloc, items, now, args, budget)
 }
 
@@ -121,28 +123,29 @@ fn last(args: &Vec<Arg>, from: usize) -> Option<&Arg>
     }
 }
 
-fn is_still_pure(now: &Pure, arg: Option<&Arg>) -> bool
+fn is_still_pure(now: &PureView, arg: Option<&Arg>) -> bool
     ensures still { IsTrue result → IsStill now.now (seen arg.entry) }
     ensures moves { IsFalse result → IsStill now.now (seen arg.entry) → ⊥ }
 {
-    match now.form() {
-        PureForm::Var(_) => true,
-        PureForm::Function(_) => !matches!(arg, Some(Arg::Ap(_))),
-        PureForm::Name(_) => false,
-        PureForm::Ap(_, _) => false,
+    match now.top() {
+        PureTop::Var => true,
+        PureTop::Function => !matches!(arg, Some(Arg::Ap(_))),
+        PureTop::Name(_) => false,
+        PureTop::Ap => false,
     }
 }
 
-fn is_still_guide(now: &Guide, arg: Option<&Arg>) -> bool
+fn is_still_guide(now: &GuideView, arg: Option<&Arg>) -> bool
     ensures still { IsTrue result → IsStill now.now (seen arg.entry) }
     ensures moves { IsFalse result → IsStill now.now (seen arg.entry) → ⊥ }
 {
-    match now.form() {
-        GuideForm::Tlam(_) => !matches!(arg, Some(Arg::At(_))),
-        GuideForm::Xtlam(_) => !matches!(arg, Some(Arg::On(_))),
-        GuideForm::Name(_) => false,
-        GuideForm::At(_, _) => false,
-        GuideForm::On(_, _) => false,
+    now.known();
+    match now.top() {
+        GuideTop::Tlam => !matches!(arg, Some(Arg::At(_))),
+        GuideTop::Xtlam => !matches!(arg, Some(Arg::On(_))),
+        GuideTop::Name(_) => false,
+        GuideTop::At => false,
+        GuideTop::On => false,
         _ => true,
     }
 }
@@ -161,14 +164,40 @@ fn reduce(
 {
     items.known();
     'steps: while !is_still(&now, &args, 0) {
-        match step(alloc, items, &now, &mut args, budget) {
-            Ok(next) => now = next,
+        match advance(alloc, items, &mut now, &mut args, budget) {
+            Ok(()) => {}
             Err(stop) => return Err(stop),
         }
     }
-    let args = Rc::new(alloc, args)?;
-    let value = value_of(alloc, &now, &args, 0)?;
+    let value = value_with(alloc, now, args)?;
     Ok(value)
+}
+
+/// The head form that a head with its arguments is.
+fn value_with(alloc: Global, head: Root, args: Vec<Arg>) -> Result<Value, NoMemory>
+    requires class { IsOf (class_trees (root_class head)) (spine (root_tree head) args.items) }
+    requires still { IsStill (root_tree head) (innermost args.items) }
+    ensures { IfOk result (λ v. StandsFor (root_class head) v (spine (root_tree head) args.items)) }
+{
+    let node = Rc::new(alloc, Applied { head, args })?;
+    value_of(alloc, &node, 0)
+}
+
+/// One move of a head in its place.
+fn advance(
+    alloc: Global,
+    items: &CheckedItems,
+    now: &mut Root,
+    args: &mut Vec<Arg>,
+    budget: &mut Budget,
+) -> Result<(), Stop>
+    requires placed { IsPlaced 4250000000 (item_sorts items.now) (class_trees (root_class now.old)) (spine (root_tree now.old) args.old.items) }
+    requires moves { IsStill (root_tree now.old) (innermost args.old.items) → ⊥ }
+    ensures step { MeetsStep (bodies (signature items.now)) (root_class now.old) (root_tree now.old) args.old.items budget.old.left args.new.items budget.new.left (reached now.new result) }
+    ensures less { budget.new.left ≤ budget.old.left }
+{
+    *now = step(alloc, items, now, args, budget)?;
+    Ok(())
 }
 
 /// One move of a head: an argument of it is put on the list, or a contraction or an unfolding is made.
@@ -197,6 +226,25 @@ fn step(
 fn step_pure(
     alloc: Global,
     items: &CheckedItems,
+    now: &PureView,
+    args: &mut Vec<Arg>,
+    budget: &mut Budget,
+) -> Result<Root, Stop>
+    requires placed { IsPlaced 4250000000 (item_sorts items.now) pure_terms (spine now.now args.old.items) }
+    requires moves { IsStill now.now (innermost args.old.items) → ⊥ }
+    ensures step { MeetsStep (bodies (signature items.now)) OfPure now.now args.old.items budget.old.left args.new.items budget.new.left result }
+    ensures less { budget.new.left ≤ budget.old.left }
+{
+    match now.own() {
+        Some(now) => step_pure_own(alloc, items, now, args, budget),
+        None => step_pure_read(alloc, items, now, args, budget),
+    }
+}
+
+/// The same at its own node, as most are: its parts are shared, and not read.
+fn step_pure_own(
+    alloc: Global,
+    items: &CheckedItems,
     now: &Pure,
     args: &mut Vec<Arg>,
     budget: &mut Budget,
@@ -208,20 +256,56 @@ fn step_pure(
 {
     match now.form() {
         PureForm::Name(item) => unfold(items, *item, budget),
-        PureForm::Function(body) => {
-            let arg = pop(args);
-            let Arg::Ap(arg) = &arg else { unreachable!() };
-            contract_ap(alloc, body, arg, budget)
-        }
+        PureForm::Function(body) => apply_ap(alloc, &PureView::of_pure(body)?, args, budget),
         PureForm::Ap(head, arg) => {
-            args.push(Arg::Ap(arg.clone()?))?;
-            Ok(Root::Pure(head.clone()?))
+            args.push(Arg::Ap(PureView::of_pure(arg)?))?;
+            Ok(Root::Pure(PureView::of_pure(head)?))
         }
         PureForm::Var(_) => unreachable!(),
     }
 }
 
+/// The same where it is read, which gives its parts by value.
+fn step_pure_read(
+    alloc: Global,
+    items: &CheckedItems,
+    now: &PureView,
+    args: &mut Vec<Arg>,
+    budget: &mut Budget,
+) -> Result<Root, Stop>
+    requires placed { IsPlaced 4250000000 (item_sorts items.now) pure_terms (spine now.now args.old.items) }
+    requires moves { IsStill now.now (innermost args.old.items) → ⊥ }
+    ensures step { MeetsStep (bodies (signature items.now)) OfPure now.now args.old.items budget.old.left args.new.items budget.new.left result }
+    ensures less { budget.new.left ≤ budget.old.left }
+{
+    let form = now.form(alloc)?;
+    match form {
+        PureViewForm::Name(item) => unfold(items, item, budget),
+        PureViewForm::Function(body) => apply_ap(alloc, &body, args, budget),
+        PureViewForm::Ap(head, arg) => unwind(Root::Pure(head), Arg::Ap(arg), args),
+        PureViewForm::Var(_) => unreachable!(),
+    }
+}
+
 fn step_guide(
+    alloc: Global,
+    items: &CheckedItems,
+    now: &GuideView,
+    args: &mut Vec<Arg>,
+    budget: &mut Budget,
+) -> Result<Root, Stop>
+    requires placed { IsPlaced 4250000000 (item_sorts items.now) guides (spine now.now args.old.items) }
+    requires moves { IsStill now.now (innermost args.old.items) → ⊥ }
+    ensures step { MeetsStep (bodies (signature items.now)) OfType now.now args.old.items budget.old.left args.new.items budget.new.left result }
+    ensures less { budget.new.left ≤ budget.old.left }
+{
+    match now.own() {
+        Some(now) => step_guide_own(alloc, items, now, args, budget),
+        None => step_guide_read(alloc, items, now, args, budget),
+    }
+}
+
+fn step_guide_own(
     alloc: Global,
     items: &CheckedItems,
     now: &Guide,
@@ -235,26 +319,101 @@ fn step_guide(
 {
     match now.form() {
         GuideForm::Name(item) => unfold(items, *item, budget),
-        GuideForm::Tlam(body) => {
-            let arg = pop(args);
-            let Arg::At(arg) = &arg else { unreachable!() };
-            contract_at(alloc, body, arg, budget)
-        }
-        GuideForm::Xtlam(body) => {
-            let arg = pop(args);
-            let Arg::On(arg) = &arg else { unreachable!() };
-            contract_on(alloc, body, arg, budget)
-        }
+        GuideForm::Tlam(body) => apply_at(alloc, &GuideView::of_guide(body)?, args, budget),
+        GuideForm::Xtlam(body) => apply_on(alloc, &GuideView::of_guide(body)?, args, budget),
         GuideForm::At(head, arg) => {
-            args.push(Arg::At(arg.clone()?))?;
-            Ok(Root::Guide(head.clone()?))
+            args.push(Arg::At(PureView::of_pure(arg)?))?;
+            Ok(Root::Guide(GuideView::of_guide(head)?))
         }
         GuideForm::On(head, arg) => {
-            args.push(Arg::On(arg.clone()?))?;
-            Ok(Root::Guide(head.clone()?))
+            args.push(Arg::On(GuideView::of_guide(arg)?))?;
+            Ok(Root::Guide(GuideView::of_guide(head)?))
         }
         _ => unreachable!(),
     }
+}
+
+fn step_guide_read(
+    alloc: Global,
+    items: &CheckedItems,
+    now: &GuideView,
+    args: &mut Vec<Arg>,
+    budget: &mut Budget,
+) -> Result<Root, Stop>
+    requires placed { IsPlaced 4250000000 (item_sorts items.now) guides (spine now.now args.old.items) }
+    requires moves { IsStill now.now (innermost args.old.items) → ⊥ }
+    ensures step { MeetsStep (bodies (signature items.now)) OfType now.now args.old.items budget.old.left args.new.items budget.new.left result }
+    ensures less { budget.new.left ≤ budget.old.left }
+{
+    let form = now.form(alloc)?;
+    match form {
+        GuideViewForm::Name(item) => unfold(items, item, budget),
+        GuideViewForm::Tlam(body) => apply_at(alloc, &body, args, budget),
+        GuideViewForm::Xtlam(body) => apply_on(alloc, &body, args, budget),
+        GuideViewForm::At(head, arg) => unwind(Root::Guide(head), Arg::At(arg), args),
+        GuideViewForm::On(head, arg) => unwind(Root::Guide(head), Arg::On(arg), args),
+        _ => unreachable!(),
+    }
+}
+
+/// The head of an application, of which the argument is put on the list.
+fn unwind(head: Root, arg: Arg, args: &mut Vec<Arg>) -> Result<Root, Stop>
+    ensures { (s : List Tree) (units : ℕ) → MeetsStep s (root_class head) (apply (arg_function arg) (root_tree head) (arg_tree arg)) args.old.items units args.new.items units result }
+{
+    args.push(arg)?;
+    Ok(head)
+}
+
+/// A function with the innermost argument, which is taken off the list.
+fn apply_ap(
+    alloc: Global,
+    body: &PureView,
+    args: &mut Vec<Arg>,
+    budget: &mut Budget,
+) -> Result<Root, Stop>
+    requires placed { (zs : List Sort) × IsPlaced 4250000000 zs pure_terms (spine (fn body.now) args.old.items) }
+    requires moves { IsStill (fn body.now) (innermost args.old.items) → ⊥ }
+    ensures step { (s : List Tree) → MeetsStep s OfPure (fn body.now) args.old.items budget.old.left args.new.items budget.new.left result }
+    ensures less { budget.new.left ≤ budget.old.left }
+{
+    let Arg::Ap(arg) = pop(args) else {
+        unreachable!()
+    };
+    contract_ap(alloc, body, &arg, budget)
+}
+
+fn apply_at(
+    alloc: Global,
+    body: &GuideView,
+    args: &mut Vec<Arg>,
+    budget: &mut Budget,
+) -> Result<Root, Stop>
+    requires placed { (zs : List Sort) × IsPlaced 4250000000 zs guides (spine (guide_tlam body.now) args.old.items) }
+    requires moves { IsStill (guide_tlam body.now) (innermost args.old.items) → ⊥ }
+    ensures step { (s : List Tree) → MeetsStep s OfType (guide_tlam body.now) args.old.items budget.old.left args.new.items budget.new.left result }
+    ensures less { budget.new.left ≤ budget.old.left }
+{
+    let Arg::At(arg) = pop(args) else {
+        unreachable!()
+    };
+    contract_at(alloc, body, &arg, budget)
+}
+
+fn apply_on(
+    alloc: Global,
+    body: &GuideView,
+    args: &mut Vec<Arg>,
+    budget: &mut Budget,
+) -> Result<Root, Stop>
+    requires placed { (zs : List Sort) × IsPlaced 4250000000 zs guides (spine (guide_xtlam body.now) args.old.items) }
+    requires moves { IsStill (guide_xtlam body.now) (innermost args.old.items) → ⊥ }
+    ensures step { (s : List Tree) → MeetsStep s OfType (guide_xtlam body.now) args.old.items budget.old.left args.new.items budget.new.left result }
+    ensures less { budget.new.left ≤ budget.old.left }
+{
+    let Arg::On(arg) = pop(args) else {
+        unreachable!()
+    };
+    contract_on(alloc, body, &arg, budget)
 }
 
 /// Takes the innermost argument off the list.
@@ -283,7 +442,12 @@ fn unfold(items: &CheckedItems, item: u32, budget: &mut Budget) -> Result<Root, 
 }
 
 /// The body of a function with the argument put for its variable, with one unit.
-fn contract_ap(alloc: Global, body: &Pure, arg: &Pure, budget: &mut Budget) -> Result<Root, Stop>
+fn contract_ap(
+    alloc: Global,
+    body: &PureView,
+    arg: &PureView,
+    budget: &mut Budget,
+) -> Result<Root, Stop>
     requires used { UsedAs OfTerm 0 pure_terms body.now }
     requires below { IsBelow 4290000000 arg.now }
     ensures step { (s : List Tree) (xs : List Arg) → MeetsStep s OfPure (fn body.now) (xs ++ Ap arg.now ∷ []) budget.old.left xs budget.new.left result }
@@ -292,13 +456,18 @@ fn contract_ap(alloc: Global, body: &Pure, arg: &Pure, budget: &mut Budget) -> R
     if !budget.take() {
         return Err(Stop::Spent);
     }
-    match body.put_pure(alloc, 0, arg) {
-        Ok(tree) => Ok(Root::Pure(tree)),
+    match body.put_pure(alloc, arg) {
+        Ok(tree) => Ok(Root::Pure(PureView::built(tree))),
         Err(stop) => Err(put_stop(stop)),
     }
 }
 
-fn contract_at(alloc: Global, body: &Guide, arg: &Pure, budget: &mut Budget) -> Result<Root, Stop>
+fn contract_at(
+    alloc: Global,
+    body: &GuideView,
+    arg: &PureView,
+    budget: &mut Budget,
+) -> Result<Root, Stop>
     requires used { UsedAs OfTerm 0 guides body.now }
     requires below { IsBelow 4290000000 arg.now }
     ensures step { (s : List Tree) (xs : List Arg) → MeetsStep s OfType (guide_tlam body.now) (xs ++ At arg.now ∷ []) budget.old.left xs budget.new.left result }
@@ -307,13 +476,18 @@ fn contract_at(alloc: Global, body: &Guide, arg: &Pure, budget: &mut Budget) -> 
     if !budget.take() {
         return Err(Stop::Spent);
     }
-    match body.put_pure(alloc, 0, arg) {
-        Ok(tree) => Ok(Root::Guide(tree)),
+    match body.put_pure(alloc, arg) {
+        Ok(tree) => Ok(Root::Guide(GuideView::built(tree))),
         Err(stop) => Err(put_stop(stop)),
     }
 }
 
-fn contract_on(alloc: Global, body: &Guide, arg: &Guide, budget: &mut Budget) -> Result<Root, Stop>
+fn contract_on(
+    alloc: Global,
+    body: &GuideView,
+    arg: &GuideView,
+    budget: &mut Budget,
+) -> Result<Root, Stop>
     requires used { UsedAs OfTypes 0 guides body.now }
     requires below { IsBelow 4290000000 arg.now }
     ensures step { (s : List Tree) (xs : List Arg) → MeetsStep s OfType (guide_xtlam body.now) (xs ++ On arg.now ∷ []) budget.old.left xs budget.new.left result }
@@ -322,8 +496,8 @@ fn contract_on(alloc: Global, body: &Guide, arg: &Guide, budget: &mut Budget) ->
     if !budget.take() {
         return Err(Stop::Spent);
     }
-    match body.put_guide(alloc, 0, arg) {
-        Ok(tree) => Ok(Root::Guide(tree)),
+    match body.put_guide(alloc, arg) {
+        Ok(tree) => Ok(Root::Guide(GuideView::built(tree))),
         Err(stop) => Err(put_stop(stop)),
     }
 }

@@ -1,31 +1,39 @@
 //! Heads and arguments of sides.
 ghost use Rattle.std.specs.Prelude.{◌≡◌, ◌≤◌, IfOk};
 ghost use Rattle.cdle_model.specs.Depth.{depth};
-ghost use Rattle.core_reduce.specs.Sides.{arg_tree, name_of, root_class, root_tree};
+ghost use Rattle.cdle_model.specs.Classes.{IsOf};
+ghost use Rattle.core_reduce.specs.Sides.{class_trees, name_of, root_class, root_tree};
 ghost use Rattle.core_reduce.specs.declared.side.SideClass.TheVariants.{OfPure, OfType, OfKind};
 
 use cdle_model::NoMemory;
-use core_tree::{Guide, GuideForm, GuideKind, Pure, PureForm};
+use core_view::{GuideTop, GuideView, KindView, PureTop, PureView};
 
-/// An erased tree of any class.
+/// An erased tree of any class, as it is read.
 #[derive(Drop)]
 pub(crate) enum Root {
-    Pure(Pure),
-    Guide(Guide),
-    Kind(GuideKind),
+    Pure(PureView),
+    Guide(GuideView),
+    Kind(KindView),
 }
 
 /// What something is applied to: a pure term by `ap`, a pure term by `at`, a guide by `on`.
 #[derive(Drop)]
 pub(crate) enum Arg {
-    Ap(Pure),
-    At(Pure),
-    On(Guide),
+    Ap(PureView),
+    At(PureView),
+    On(GuideView),
+}
+
+/// A head with the arguments to which it is applied, of which the outermost is the first.
+#[derive(Drop)]
+pub(crate) struct Applied {
+    pub(crate) head: Root,
+    pub(crate) args: Vec<Arg>,
 }
 
 impl Root {
     /// The tree of a pure term.
-    pub(crate) fn pure(&self) -> &Pure
+    pub(crate) fn pure(&self) -> &PureView
         requires { root_class self.now ≡ OfPure }
         ensures { result.now ≡ root_tree self.now }
     {
@@ -36,7 +44,7 @@ impl Root {
     }
 
     /// The tree of an erased type.
-    pub(crate) fn guide(&self) -> &Guide
+    pub(crate) fn guide(&self) -> &GuideView
         requires { root_class self.now ≡ OfType }
         ensures { result.now ≡ root_tree self.now }
     {
@@ -47,7 +55,7 @@ impl Root {
     }
 
     /// The tree of an erased kind.
-    pub(crate) fn kind(&self) -> &GuideKind
+    pub(crate) fn kind(&self) -> &KindView
         requires { root_class self.now ≡ OfKind }
         ensures { result.now ≡ root_tree self.now }
     {
@@ -62,27 +70,21 @@ impl Root {
         ensures { IfOk result (λ r. r ≡ self.now) }
     {
         match self {
-            Root::Pure(term) => Ok(Root::Pure(term.clone()?)),
-            Root::Guide(guide) => Ok(Root::Guide(guide.clone()?)),
-            Root::Kind(kind) => Ok(Root::Kind(kind.clone()?)),
+            Root::Pure(term) => Ok(Root::Pure(term.share()?)),
+            Root::Guide(guide) => Ok(Root::Guide(guide.share()?)),
+            Root::Kind(kind) => Ok(Root::Kind(kind.share()?)),
         }
     }
 
-    /// Tells a proof how deep the tree is at most.
+    /// Tells a proof the class of the tree, and how deep it is at most.
     pub(crate) fn known(&self)
-        ensures { depth (root_tree self.now) ≤ 65535 }
-    {
-        let _ = self.depth();
-    }
-
-    pub(crate) fn depth(&self) -> u32
-        ensures is { result ≡ depth (root_tree self.now) }
-        ensures bounded { result ≤ 65535 }
+        ensures class { IsOf (class_trees (root_class self.now)) (root_tree self.now) }
+        ensures bounded { depth (root_tree self.now) ≤ 65535 }
     {
         match self {
-            Root::Pure(term) => term.depth(),
-            Root::Guide(guide) => guide.depth(),
-            Root::Kind(kind) => kind.depth(),
+            Root::Pure(term) => term.known(),
+            Root::Guide(guide) => guide.known(),
+            Root::Kind(kind) => kind.known(),
         }
     }
 
@@ -91,12 +93,12 @@ impl Root {
         ensures { result ≡ name_of (root_tree self.now) }
     {
         match self {
-            Root::Pure(term) => match term.form() {
-                PureForm::Name(item) => Some(*item),
+            Root::Pure(term) => match term.top() {
+                PureTop::Name(item) => Some(item),
                 _ => None,
             },
-            Root::Guide(guide) => match guide.form() {
-                GuideForm::Name(item) => Some(*item),
+            Root::Guide(guide) => match guide.top() {
+                GuideTop::Name(item) => Some(item),
                 _ => None,
             },
             Root::Kind(kind) => {
@@ -113,20 +115,9 @@ impl Arg {
         ensures { IfOk result (λ a. a ≡ self.now) }
     {
         match self {
-            Arg::Ap(arg) => Ok(Arg::Ap(arg.clone()?)),
-            Arg::At(arg) => Ok(Arg::At(arg.clone()?)),
-            Arg::On(arg) => Ok(Arg::On(arg.clone()?)),
-        }
-    }
-
-    pub(crate) fn depth(&self) -> u32
-        ensures is { result ≡ depth (arg_tree self.now) }
-        ensures bounded { result ≤ 65535 }
-    {
-        match self {
-            Arg::Ap(arg) => arg.depth(),
-            Arg::At(arg) => arg.depth(),
-            Arg::On(arg) => arg.depth(),
+            Arg::Ap(arg) => Ok(Arg::Ap(arg.share()?)),
+            Arg::At(arg) => Ok(Arg::At(arg.share()?)),
+            Arg::On(arg) => Ok(Arg::On(arg.share()?)),
         }
     }
 }

@@ -1,14 +1,16 @@
 //! Sides: erased trees as heads with arguments.
 ghost use Rattle.std.specs.Prelude.{◌≡◌, IfOk};
 ghost use Rattle.cdle_model.specs.Erasure.{HasErasure, erased};
-ghost use Rattle.core_reduce.specs.Sides.{ArePure, arg_class, arg_tree, name_of, spine};
+ghost use Rattle.cdle_model.specs.Trees.{shift};
+ghost use Rattle.core_reduce.specs.Sides.{ArePure, arg_class, arg_tree, name_of, sided, spine};
 ghost use Rattle.core_tree.specs.Faults.{IsKept};
 ghost use Rattle.core_reduce.specs.declared.side.SideClass.TheVariants.{OfPure, OfType, OfKind};
 
-use crate::root::{Arg, Root};
+use crate::root::{Applied, Arg, Root};
 use crate::spine::{flat_spine, guide_spine, is_applied, kind_tree, pure_spine};
 use cdle_model::NoMemory;
 use core_tree::{Guide, GuideKind, Kept, Kind, Pure, Term, Ty};
+use core_view::{GuideView, KindView, PureView};
 use std::alloc::Global;
 use std::marker::Model;
 use std::rc::Rc;
@@ -21,12 +23,11 @@ pub enum SideClass {
     OfKind,
 }
 
-/// An erased tree as its head with the arguments to which that is applied. Contracts see the class and the tree.
+/// An erased tree as its head with the arguments to which that is applied. A copy shares both. Contracts see the class and the tree.
 #[derive(Drop)]
 pub struct Side {
-    pub(crate) head: Root,
-    // Those from the place `from` on, of which the outermost is the first.
-    pub(crate) args: Rc<Vec<Arg>>,
+    pub(crate) node: Rc<Applied>,
+    // Of the node's arguments, those from this place on are the side's.
     pub(crate) from: usize,
 }
 
@@ -40,9 +41,9 @@ impl Model for Side {
 
     ghost coded = { coded_side };
 
-    ghost view = { λ s. record { class = root_class s.head; tree = spine (root_tree s.head) (drop s.from s.args.value.items) } };
+    ghost view = { λ s. record { class = root_class s.node.value.head; tree = spine (root_tree s.node.value.head) (drop s.from s.node.value.args.items) } };
 
-    ghost invariant = { λ s. (s.from ≤ length s.args.value.items) × IsOf (class_trees (root_class s.head)) (spine (root_tree s.head) (drop s.from s.args.value.items)) };
+    ghost invariant = { λ s. (s.from ≤ length s.node.value.args.items) × IsOf (class_trees (root_class s.node.value.head)) (spine (root_tree s.node.value.head) (drop s.from s.node.value.args.items)) };
 }
 
 impl Side {
@@ -51,14 +52,14 @@ impl Side {
         requires { HasErasure term.now }
         ensures { IfOk result (λ s. s ≡ record { class = OfPure; tree = erased term.now }) }
     {
-        Side::whole_pure(alloc, term.erase(alloc)?)
+        Side::of_root(alloc, Root::Pure(PureView::of_term(term)?))
     }
 
     /// The pure term itself, whose node is shared.
     pub fn of_pure(alloc: Global, term: &Pure) -> Result<Side, NoMemory>
         ensures { IfOk result (λ s. s ≡ record { class = OfPure; tree = term.now }) }
     {
-        Side::whole_pure(alloc, term.clone()?)
+        Side::of_root(alloc, Root::Pure(PureView::of_pure(term)?))
     }
 
     /// The erasure of the type.
@@ -66,14 +67,14 @@ impl Side {
         requires { HasErasure ty.now }
         ensures { IfOk result (λ s. s ≡ record { class = OfType; tree = erased ty.now }) }
     {
-        Side::whole_guide(alloc, ty.erase(alloc)?)
+        Side::of_root(alloc, Root::Guide(GuideView::of_type(ty)?))
     }
 
     /// The erased type itself, whose node is shared.
     pub fn of_guide(alloc: Global, guide: &Guide) -> Result<Side, NoMemory>
         ensures { IfOk result (λ s. s ≡ record { class = OfType; tree = guide.now }) }
     {
-        Side::whole_guide(alloc, guide.clone()?)
+        Side::of_root(alloc, Root::Guide(GuideView::of_guide(guide)?))
     }
 
     /// The erasure of the kind.
@@ -81,14 +82,14 @@ impl Side {
         requires { HasErasure kind.now }
         ensures { IfOk result (λ s. s ≡ record { class = OfKind; tree = erased kind.now }) }
     {
-        Side::whole_kind(alloc, kind.erase(alloc)?)
+        Side::of_root(alloc, Root::Kind(KindView::of_kind(alloc, kind)?))
     }
 
     /// The erased kind itself, whose node is shared.
     pub fn of_guide_kind(alloc: Global, kind: &GuideKind) -> Result<Side, NoMemory>
         ensures { IfOk result (λ s. s ≡ record { class = OfKind; tree = kind.now }) }
     {
-        Side::whole_kind(alloc, kind.clone()?)
+        Side::of_root(alloc, Root::Kind(KindView::of_guide_kind(kind)?))
     }
 
     /// The same side again, sharing its nodes.
@@ -96,8 +97,7 @@ impl Side {
         ensures { IfOk result (λ s. s ≡ self.now) }
     {
         Ok(Side {
-            head: self.head.share()?,
-            args: self.args.clone()?,
+            node: self.node.clone()?,
             from: self.from,
         })
     }
@@ -107,56 +107,46 @@ impl Side {
         ensures { IfOk result (λ s. s ≡ record { class = arg_class arg.now; tree = arg_tree arg.now }) }
     {
         match arg {
-            Arg::Ap(term) => Side::of_pure(alloc, term),
-            Arg::At(term) => Side::of_pure(alloc, term),
-            Arg::On(guide) => Side::of_guide(alloc, guide),
+            Arg::Ap(term) => Side::of_root(alloc, Root::Pure(term.share()?)),
+            Arg::At(term) => Side::of_root(alloc, Root::Pure(term.share()?)),
+            Arg::On(guide) => Side::of_root(alloc, Root::Guide(guide.share()?)),
         }
     }
 
-    fn whole_pure(alloc: Global, term: Pure) -> Result<Side, NoMemory>
-        ensures { IfOk result (λ s. s ≡ record { class = OfPure; tree = term }) }
+    /// The tree that is read, without arguments.
+    pub(crate) fn of_root(alloc: Global, head: Root) -> Result<Side, NoMemory>
+        ensures { IfOk result (λ s. s ≡ sided head) }
     {
-        term.known();
+        head.known();
+        let args = Vec::new(alloc);
         Ok(Side {
-            head: Root::Pure(term),
-            args: Rc::new(alloc, Vec::new(alloc))?,
-            from: 0,
-        })
-    }
-
-    fn whole_guide(alloc: Global, guide: Guide) -> Result<Side, NoMemory>
-        ensures { IfOk result (λ s. s ≡ record { class = OfType; tree = guide }) }
-    {
-        guide.known();
-        Ok(Side {
-            head: Root::Guide(guide),
-            args: Rc::new(alloc, Vec::new(alloc))?,
-            from: 0,
-        })
-    }
-
-    fn whole_kind(alloc: Global, kind: GuideKind) -> Result<Side, NoMemory>
-        ensures { IfOk result (λ s. s ≡ record { class = OfKind; tree = kind }) }
-    {
-        kind.known();
-        Ok(Side {
-            head: Root::Kind(kind),
-            args: Rc::new(alloc, Vec::new(alloc))?,
+            node: Rc::new(alloc, Applied { head, args })?,
             from: 0,
         })
     }
 
     /// A pure term applied to pure terms, of which the outermost is the first.
-    pub(crate) fn applied(alloc: Global, head: Pure, args: Vec<Arg>) -> Result<Side, NoMemory>
+    pub(crate) fn applied(alloc: Global, head: PureView, args: Vec<Arg>) -> Result<Side, NoMemory>
         requires { ArePure args.items }
         ensures { IfOk result (λ s. s ≡ record { class = OfPure; tree = spine head args.items }) }
     {
         head.known();
+        let head = Root::Pure(head);
         Ok(Side {
-            head: Root::Pure(head),
-            args: Rc::new(alloc, args)?,
+            node: Rc::new(alloc, Applied { head, args })?,
             from: 0,
         })
+    }
+
+    /// The pure term over one more variable, whose number is 0: as it is read, or as one tree where it has arguments.
+    pub(crate) fn raised(&self, alloc: Global) -> Result<PureView, NoMemory>
+        requires { self.now.class ≡ OfPure }
+        ensures { IfOk result (λ t. t ≡ shift 0 1 self.now.tree) }
+    {
+        if is_applied(&self.node.args, self.from) {
+            return PureView::built(self.flat_pure(alloc)?).raised(alloc);
+        }
+        self.node.head.pure().raised(alloc)
     }
 
     /// The pure term as one tree, of any depth that a tree can have.
@@ -164,24 +154,24 @@ impl Side {
         requires { self.now.class ≡ OfPure }
         ensures { IfOk result (λ t. t ≡ self.now.tree) }
     {
-        flat_spine(alloc, self.head.pure(), &self.args, self.from)
+        flat_spine(alloc, self.node.head.pure(), &self.node.args, self.from)
     }
 
     /// The item's number, where the side is a name.
     pub fn name(&self) -> Option<u32>
         ensures { result ≡ name_of self.now.tree }
     {
-        if is_applied(&self.args, self.from) {
+        if is_applied(&self.node.args, self.from) {
             return None;
         }
-        self.head.name()
+        self.node.head.name()
     }
 
     /// What the side stands for, which stays the same through all of its steps.
     pub fn class(&self) -> SideClass
         ensures { result ≡ self.now.class }
     {
-        match &self.head {
+        match &self.node.head {
             Root::Pure(_) => SideClass::OfPure,
             Root::Guide(_) => SideClass::OfType,
             Root::Kind(_) => SideClass::OfKind,
@@ -193,7 +183,7 @@ impl Side {
         requires { self.now.class ≡ OfPure }
         ensures { IfOk result (λ k. IsKept self.now.tree k) }
     {
-        pure_spine(alloc, self.head.pure(), &self.args, self.from)
+        pure_spine(alloc, self.node.head.pure(), &self.node.args, self.from)
     }
 
     /// The erased type as one tree.
@@ -201,7 +191,7 @@ impl Side {
         requires { self.now.class ≡ OfType }
         ensures { IfOk result (λ k. IsKept self.now.tree k) }
     {
-        guide_spine(alloc, self.head.guide(), &self.args, self.from)
+        guide_spine(alloc, self.node.head.guide(), &self.node.args, self.from)
     }
 
     /// The erased kind as one tree.
@@ -209,6 +199,6 @@ impl Side {
         requires { self.now.class ≡ OfKind }
         ensures { IfOk result (λ k. IsKept self.now.tree k) }
     {
-        kind_tree(self.head.kind(), &self.args, self.from)
+        kind_tree(self.node.head.kind(), &self.node.args, self.from)
     }
 }

@@ -4,16 +4,19 @@ ghost use Rattle.cdle_model.specs.Trees.{apply, of_pure, var};
 ghost use Rattle.cdle_model.specs.Classes.{IsOf, guides, pure_terms};
 ghost use Rattle.cdle_model.specs.Comparison.{head_of};
 ghost use Rattle.core_reduce.specs.Heads.{IsOther, IsStill, innermost};
-ghost use Rattle.core_reduce.specs.Sides.{arg_function, arg_tree, class_trees, root_class, root_tree, spine};
+ghost use Rattle.core_reduce.specs.Sides.{arg_function, arg_tree, class_trees, root_class, root_tree, sided, spine};
 ghost use Rattle.core_reduce.specs.Values.{IsOfForm, IsStuck, StandsFor, former_class, former_parts, former_tree};
+ghost use Rattle.core_reduce.specs.declared.root.Root.TheVariants.{Guide};
 ghost use Rattle.core_reduce.specs.declared.side.SideClass.{SideClass};
 ghost use Rattle.core_reduce.specs.declared.side.SideClass.TheVariants.{OfPure, OfType, OfKind};
 
-use crate::root::{Arg, Root};
+use crate::root::{Applied, Arg, Root};
 use crate::side::Side;
 use crate::spine::is_applied;
 use cdle_model::NoMemory;
-use core_tree::{Guide, GuideForm, GuideKind, GuideKindForm, Pure, PureForm};
+use core_view::{
+    GuideTop, GuideView, GuideViewForm, KindView, KindViewForm, PureView, PureViewForm,
+};
 use std::alloc::Global;
 use std::rc::Rc;
 
@@ -99,62 +102,64 @@ fn variable(alloc: Global, index: u32, args: &Vec<Arg>, from: usize) -> Result<V
     })
 }
 
-/// The head form that a head with the arguments from the place `from` on is.
-pub(crate) fn value_of(
-    alloc: Global,
-    now: &Root,
-    args: &Rc<Vec<Arg>>,
-    from: usize,
-) -> Result<Value, NoMemory>
-    requires within { from ≤ length args.now.value.items }
-    requires class { IsOf (class_trees (root_class now.now)) (spine (root_tree now.now) (drop from args.now.value.items)) }
-    requires still { IsStill (root_tree now.now) (innermost (drop from args.now.value.items)) }
-    ensures { IfOk result (λ v. StandsFor (root_class now.now) v (spine (root_tree now.now) (drop from args.now.value.items))) }
+/// The head form that a head with its arguments from the place `from` on is.
+pub(crate) fn value_of(alloc: Global, at: &Rc<Applied>, from: usize) -> Result<Value, NoMemory>
+    requires within { from ≤ length at.now.value.args.items }
+    requires class { IsOf (class_trees (root_class at.now.value.head)) (spine (root_tree at.now.value.head) (drop from at.now.value.args.items)) }
+    requires still { IsStill (root_tree at.now.value.head) (innermost (drop from at.now.value.args.items)) }
+    ensures { IfOk result (λ v. StandsFor (root_class at.now.value.head) v (spine (root_tree at.now.value.head) (drop from at.now.value.args.items))) }
 {
-    match now {
-        Root::Pure(term) => pure_value(alloc, term, args, from),
-        Root::Guide(guide) => guide_value(alloc, guide, args, from),
+    match &at.head {
+        Root::Pure(term) => pure_value(alloc, term, &at.args, from),
+        Root::Guide(guide) => guide_value(alloc, at, guide, from),
         Root::Kind(kind) => kind_value(alloc, kind),
     }
 }
 
-fn pure_value(alloc: Global, now: &Pure, args: &Vec<Arg>, from: usize) -> Result<Value, NoMemory>
+fn pure_value(
+    alloc: Global,
+    now: &PureView,
+    args: &Vec<Arg>,
+    from: usize,
+) -> Result<Value, NoMemory>
     requires within { from ≤ length args.now.items }
     requires class { IsOf pure_terms (spine now.now (drop from args.now.items)) }
     requires still { IsStill now.now (innermost (drop from args.now.items)) }
     ensures { IfOk result (λ v. StandsFor OfPure v (spine now.now (drop from args.now.items))) }
 {
-    match now.form() {
-        PureForm::Var(index) => variable(alloc, *index, args, from),
-        PureForm::Function(body) => Ok(Value::Fun(Side::of_pure(alloc, body)?)),
-        PureForm::Name(_) => unreachable!(),
-        PureForm::Ap(_, _) => unreachable!(),
+    let form = now.form(alloc)?;
+    match form {
+        PureViewForm::Var(index) => variable(alloc, index, args, from),
+        PureViewForm::Function(body) => { Ok(Value::Fun(Side::of_root(alloc, Root::Pure(body))?)) }
+        PureViewForm::Name(_) => unreachable!(),
+        PureViewForm::Ap(_, _) => unreachable!(),
     }
 }
 
+/// The head form of the erased type `now` with the arguments of the node of which it is the head.
 fn guide_value(
     alloc: Global,
-    now: &Guide,
-    args: &Rc<Vec<Arg>>,
+    at: &Rc<Applied>,
+    now: &GuideView,
     from: usize,
 ) -> Result<Value, NoMemory>
-    requires within { from ≤ length args.now.value.items }
-    requires class { IsOf guides (spine now.now (drop from args.now.value.items)) }
-    requires still { IsStill now.now (innermost (drop from args.now.value.items)) }
-    ensures { IfOk result (λ v. StandsFor OfType v (spine now.now (drop from args.now.value.items))) }
+    requires head { at.now.value.head ≡ Guide now.now }
+    requires within { from ≤ length at.now.value.args.items }
+    requires class { IsOf guides (spine now.now (drop from at.now.value.args.items)) }
+    requires still { IsStill now.now (innermost (drop from at.now.value.args.items)) }
+    ensures { IfOk result (λ v. StandsFor OfType v (spine now.now (drop from at.now.value.args.items))) }
 {
-    if let GuideForm::Var(index) = now.form() {
-        return variable(alloc, *index, args, from);
+    if let GuideTop::Var(index) = now.top() {
+        return variable(alloc, index, &at.args, from);
     }
-    if !is_applied(args, from) {
+    if !is_applied(&at.args, from) {
         return form_of(alloc, now);
     }
     let head = Side {
-        head: Root::Guide(now.clone()?),
-        args: args.clone()?,
+        node: at.clone()?,
         from: from + 1,
     };
-    stuck(alloc, head, argument(args, from))
+    stuck(alloc, head, argument(&at.args, from))
 }
 
 fn argument(args: &Vec<Arg>, at: usize) -> &Arg
@@ -172,71 +177,81 @@ fn stuck(alloc: Global, head: Side, arg: &Arg) -> Result<Value, NoMemory>
     ensures { IfOk result (λ v. StandsFor OfType v (apply (arg_function arg.now) head.tree (arg_tree arg.now))) }
 {
     match arg {
-        Arg::At(arg) => two_parts(alloc, Former::At, head, Side::of_pure(alloc, arg)?),
-        Arg::On(arg) => two_parts(alloc, Former::On, head, Side::of_guide(alloc, arg)?),
+        Arg::At(arg) => {
+            let arg = Side::of_root(alloc, Root::Pure(arg.share()?))?;
+            two_parts(alloc, Former::At, head, arg)
+        }
+        Arg::On(arg) => {
+            let arg = Side::of_root(alloc, Root::Guide(arg.share()?))?;
+            two_parts(alloc, Former::On, head, arg)
+        }
         Arg::Ap(_) => unreachable!(),
     }
 }
 
 /// An erased type that is no variable, no name and no application.
-fn form_of(alloc: Global, now: &Guide) -> Result<Value, NoMemory>
+fn form_of(alloc: Global, now: &GuideView) -> Result<Value, NoMemory>
     requires other { IsOther now.now }
     ensures { IfOk result (λ v. StandsFor OfType v now.now) }
 {
-    match now.form() {
-        GuideForm::Pi(domain, part) => two_guides(alloc, Former::Pi, domain, part),
-        GuideForm::All(domain, part) => two_guides(alloc, Former::All, domain, part),
-        GuideForm::Allt(domain, part) => two_parts(
-            alloc,
-            Former::Allt,
-            Side::of_guide_kind(alloc, domain)?,
-            Side::of_guide(alloc, part)?,
-        ),
-        GuideForm::Tlam(part) => one_part(alloc, Former::Tlam, Side::of_guide(alloc, part)?),
-        GuideForm::Xtlam(part) => one_part(alloc, Former::Xtlam, Side::of_guide(alloc, part)?),
-        GuideForm::Iota(left, right) => two_guides(alloc, Former::Iota, left, right),
-        GuideForm::Eq(left, right) => two_parts(
-            alloc,
-            Former::Eq,
-            Side::of_pure(alloc, left)?,
-            Side::of_pure(alloc, right)?,
-        ),
-        GuideForm::Var(_) => unreachable!(),
-        GuideForm::Name(_) => unreachable!(),
-        GuideForm::At(_, _) => unreachable!(),
-        GuideForm::On(_, _) => unreachable!(),
+    match now.form(alloc)? {
+        GuideViewForm::Pi(domain, part) => {
+            two_roots(alloc, Former::Pi, Root::Guide(domain), Root::Guide(part))
+        }
+        GuideViewForm::All(domain, part) => {
+            two_roots(alloc, Former::All, Root::Guide(domain), Root::Guide(part))
+        }
+        GuideViewForm::Allt(domain, part) => {
+            two_roots(alloc, Former::Allt, Root::Kind(domain), Root::Guide(part))
+        }
+        GuideViewForm::Tlam(part) => {
+            one_part(
+                alloc,
+                Former::Tlam,
+                Side::of_root(alloc, Root::Guide(part))?,
+            )
+        }
+        GuideViewForm::Xtlam(part) => {
+            one_part(
+                alloc,
+                Former::Xtlam,
+                Side::of_root(alloc, Root::Guide(part))?,
+            )
+        }
+        GuideViewForm::Iota(left, right) => {
+            two_roots(alloc, Former::Iota, Root::Guide(left), Root::Guide(right))
+        }
+        GuideViewForm::Eq(left, right) => {
+            two_roots(alloc, Former::Eq, Root::Pure(left), Root::Pure(right))
+        }
+        GuideViewForm::Var(_) => unreachable!(),
+        GuideViewForm::Name(_) => unreachable!(),
+        GuideViewForm::At(_, _) => unreachable!(),
+        GuideViewForm::On(_, _) => unreachable!(),
     }
 }
 
-fn two_guides(alloc: Global, former: Former, left: &Guide, right: &Guide) -> Result<Value, NoMemory>
-    requires parts { former_parts former ≡ OfType ∷ OfType ∷ [] }
-    requires stuck { IsStuck former (record { class = OfType; tree = left.now } ∷ record { class = OfType; tree = right.now } ∷ []) }
-    ensures { IfOk result (λ v. StandsFor (former_class former) v (former_tree former (record { class = OfType; tree = left.now } ∷ record { class = OfType; tree = right.now } ∷ []))) }
+/// A form of two parts that are read.
+fn two_roots(alloc: Global, former: Former, left: Root, right: Root) -> Result<Value, NoMemory>
+    requires parts { former_parts former ≡ root_class left ∷ root_class right ∷ [] }
+    requires stuck { IsStuck former (sided left ∷ sided right ∷ []) }
+    ensures { IfOk result (λ v. StandsFor (former_class former) v (former_tree former (sided left ∷ sided right ∷ []))) }
 {
-    two_parts(
-        alloc,
-        former,
-        Side::of_guide(alloc, left)?,
-        Side::of_guide(alloc, right)?,
-    )
+    let left = Side::of_root(alloc, left)?;
+    let right = Side::of_root(alloc, right)?;
+    two_parts(alloc, former, left, right)
 }
 
-fn kind_value(alloc: Global, now: &GuideKind) -> Result<Value, NoMemory>
+fn kind_value(alloc: Global, now: &KindView) -> Result<Value, NoMemory>
     ensures { IfOk result (λ v. StandsFor OfKind v now.now) }
 {
-    match now.form() {
-        GuideKindForm::Star => Ok(no_parts(alloc, Former::Star)),
-        GuideKindForm::Kpi(domain, part) => two_parts(
-            alloc,
-            Former::Kpi,
-            Side::of_guide(alloc, domain)?,
-            Side::of_guide_kind(alloc, part)?,
-        ),
-        GuideKindForm::Kpit(domain, part) => two_parts(
-            alloc,
-            Former::Kpit,
-            Side::of_guide_kind(alloc, domain)?,
-            Side::of_guide_kind(alloc, part)?,
-        ),
+    match now.form()? {
+        KindViewForm::Star => Ok(no_parts(alloc, Former::Star)),
+        KindViewForm::Kpi(domain, part) => {
+            two_roots(alloc, Former::Kpi, Root::Guide(domain), Root::Kind(part))
+        }
+        KindViewForm::Kpit(domain, part) => {
+            two_roots(alloc, Former::Kpit, Root::Kind(domain), Root::Kind(part))
+        }
     }
 }

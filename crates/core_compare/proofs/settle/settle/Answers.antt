@@ -6,22 +6,22 @@ pub returns-in_ok-put_bodies-in-Fun-Fun : goal.returns-in_ok-put_bodies-in-Fun-F
 returns-in_ok-put_bodies-in-Fun-Fun c =
     let e = c.in_ok-put_bodies-in-Fun-Fun.ensures in
     rw (c.in-Fun-Fun.is-0, c.in-Fun-Fun.is-1)
-    (settled_functions c.args.binders c.in-Fun-Fun.left c.in-Fun-Fun.right c.args.pairs.now.items c.put_bodies-in-Fun-Fun.new.pairs.items e.0
-    (rw (c.in_ok-copy-in-Fun-Fun.ensures, c.in_ok-copy-in-Fun-Fun-2.ensures) at e.1))
+    (settled_functions c.args.binders c.in-Fun-Fun.field-0-0 c.in-Fun-Fun.field-0-1 c.args.pairs.now.items c.put_bodies.new.pairs.items e.0
+    (rw (c.in-Fun-Fun.is-0, c.in-Fun-Fun.is-1) at e.1))
 
 pub returns-in_ok-put_bodies-in-Fun-Var : goal.returns-in_ok-put_bodies-in-Fun-Var
 returns-in_ok-put_bodies-in-Fun-Var c =
     let e = c.in_ok-put_bodies-in-Fun-Var.ensures in
     rw (c.in-Fun-Var.is-0, c.in-Fun-Var.is-1)
-    (settled_left c.args.binders c.in-Fun-Var.left c.in-Fun-Var.var-1 c.in-Fun-Var.args-1 c.args.pairs.now.items c.put_bodies-in-Fun-Var-2.new.pairs.items e.0
-    (rw (c.in_ok-copy-in-Fun-Var.ensures, c.in_ok-applied-in-Fun-Var.ensures, c.in-Fun-Var.is-1) at e.1))
+    (settled_left c.args.binders c.in-Fun-Var.field-0-0 c.in-Fun-Var.var-1 c.in-Fun-Var.args-1 c.args.pairs.now.items c.put_bodies-in-Fun-Var.new.pairs.items e.0
+    (rw (c.in-Fun-Var.is-0, c.in-Fun-Var.is-1) at e.1))
 
 pub returns-in_ok-put_bodies-in-Var-Fun : goal.returns-in_ok-put_bodies-in-Var-Fun
 returns-in_ok-put_bodies-in-Var-Fun c =
     let e = c.in_ok-put_bodies-in-Var-Fun.ensures in
     rw (c.in-Var-Fun.is-0, c.in-Var-Fun.is-1)
-    (settled_right c.args.binders c.in-Var-Fun.var-0 c.in-Var-Fun.args-0 c.in-Var-Fun.right c.args.pairs.now.items c.put_bodies-in-Var-Fun-2.new.pairs.items e.0
-    (rw (c.in_ok-copy-in-Var-Fun.ensures, c.in_ok-applied-in-Var-Fun.ensures, c.in-Var-Fun.is-0) at e.1))
+    (settled_right c.args.binders c.in-Var-Fun.var-0 c.in-Var-Fun.args-0 c.in-Var-Fun.field-0-1 c.args.pairs.now.items c.put_bodies-in-Var-Fun.new.pairs.items e.0
+    (rw (c.in-Var-Fun.is-0, c.in-Var-Fun.is-1) at e.1))
 
 pub returns-then-i-j : goal.returns-then-i-j
 returns-then-i-j c = rw (c.in-Var-Var.is-0, c.in-Var-Var.is-1) (variables_differ c.in-Var-Var.i c.in-Var-Var.j c.in-Var-Var.xs c.in-Var-Var.ys (λ e d. c.if-i-j.true e))

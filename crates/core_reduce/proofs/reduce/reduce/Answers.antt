@@ -16,24 +16,23 @@ steps-preserved c =
     let w = (items-fit c.args.items.now c.known.ensures.items c.known.ensures.erasures).bodies_fit in
     record {
       so_far = going_on (item_sorts c.args.items.now) (bodies (signature c.args.items.now)) (root_class c.args.now) w 4250000000 (spine (root_tree c.args.now) c.args.args.items)
-          c.args.budget.now.left c.steps.now c.in-Ok.next c.steps.args.items c.step.new.args.items c.steps.budget.left c.step.new.budget.left g
-          (subst (λ k. MeetsStep (bodies (signature c.args.items.now)) k (root_tree c.steps.now) c.steps.args.items c.steps.budget.left c.step.new.args.items c.step.new.budget.left (Ok c.in-Ok.next)) g.class c.in-Ok.ensures.step);
-      less = (let a = c.step.ensures.less in let b = c.steps.invariant.less in omega arith);
+          c.args.budget.now.left c.steps.now c.advance.new.now c.steps.args.items c.advance.new.args.items c.steps.budget.left c.advance.new.budget.left g
+          (subst (λ k. MeetsStep (bodies (signature c.args.items.now)) k (root_tree c.steps.now) c.steps.args.items c.steps.budget.left c.advance.new.args.items c.advance.new.budget.left (Ok c.advance.new.now)) g.class c.in-Ok.ensures.step);
+      less = (let a = c.advance.ensures.less in let b = c.steps.invariant.less in omega arith);
     }
 
 pub returns-in-Err-clause-form : goal.returns-in-Err-clause-form
 returns-in-Err-clause-form c =
     let g = c.steps.invariant.so_far in
     going_err (item_sorts c.args.items.now) (bodies (signature c.args.items.now)) (root_class c.args.now) 4250000000 (spine (root_tree c.args.now) c.args.args.items)
-    c.args.budget.now.left c.steps.now c.steps.args.items c.step.new.args.items c.steps.budget.left c.step.new.budget.left c.in-Err.stop g
-    (subst (λ k. MeetsStep (bodies (signature c.args.items.now)) k (root_tree c.steps.now) c.steps.args.items c.steps.budget.left c.step.new.args.items c.step.new.budget.left (Err c.in-Err.stop)) g.class c.in-Err.ensures.step)
+    c.args.budget.now.left c.steps.now c.steps.args.items c.advance.new.args.items c.steps.budget.left c.advance.new.budget.left c.in-Err.stop g
+    (subst (λ k. MeetsStep (bodies (signature c.args.items.now)) k (root_tree c.steps.now) c.steps.args.items c.steps.budget.left c.advance.new.args.items c.advance.new.budget.left (Err c.in-Err.stop)) g.class c.in-Err.ensures.step)
 
-pub value_of-requires-clause-class : goal.value_of-requires-clause-class
-value_of-requires-clause-class c =
+pub value_with-requires-clause-class : goal.value_with-requires-clause-class
+value_with-requires-clause-class c =
     let g = c.steps.invariant.so_far in
-    subst (λ k. IsOf (class_trees k) (spine (root_tree c.steps.now) c.in_ok-args.args.value.items)) (sym g.class)
-    (subst (λ v. IsOf (class_trees (root_class c.args.now)) (spine (root_tree c.steps.now) v.items)) (sym c.in_ok-args.ensures.ok)
-    (fits_of (within g.placed.sorts (item_sorts c.args.items.now)) (class_trees (root_class c.args.now)) (spine (root_tree c.steps.now) c.steps.args.items) g.placed.fits))
+    subst (λ k. IsOf (class_trees k) (spine (root_tree c.steps.now) c.steps.args.items)) (sym g.class)
+    (fits_of (within g.placed.sorts (item_sorts c.args.items.now)) (class_trees (root_class c.args.now)) (spine (root_tree c.steps.now) c.steps.args.items) g.placed.fits)
 
 pub returns-clause-form : goal.returns-clause-form
 returns-clause-form c =
@@ -43,5 +42,4 @@ returns-clause-form c =
     going_form (item_sorts c.args.items.now) s (root_class c.args.now) 4250000000 (spine (root_tree c.args.now) c.args.args.items)
     c.args.budget.now.left c.steps.now c.steps.args.items c.steps.budget.left c.in_ok-value.value g
     (still_none s (within g.placed.sorts (item_sorts c.args.items.now)) (root_class c.args.now) (root_tree c.steps.now) c.steps.args.items g.placed.fits (c.is_still.ensures.still c.steps-test.false))
-    (subst (λ k. StandsFor k c.in_ok-value.value t) g.class
-    (subst (λ v. StandsFor (root_class c.steps.now) c.in_ok-value.value (spine (root_tree c.steps.now) v.items)) c.in_ok-args.ensures.ok c.in_ok-value.ensures))
+    (subst (λ k. StandsFor k c.in_ok-value.value t) g.class c.in_ok-value.ensures)
