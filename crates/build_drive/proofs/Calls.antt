@@ -33,13 +33,13 @@ there v given f files s told quiet h = absurd h
 none_longer : {R : Type 0} (o : Option Bytes) → o ≡ None → IsLonger most_bytes o → R
 none_longer o e h = absurd (subst (IsLonger most_bytes) e h)
 
-none_some : {R : Type 0} (o : Option Bytes) (bytes : Bytes) → o ≡ None → o ≡ Some bytes → R
+pub none_some : {R : Type 0} (o : Option Bytes) (bytes : Bytes) → o ≡ None → o ≡ Some bytes → R
 none_some o bytes e g = absurd cc
 
-longer_some : {R : Type 0} (o : Option Bytes) (bytes : Bytes) → IsLonger most_bytes o → length bytes ≤ most_bytes → o ≡ Some bytes → R
+pub longer_some : {R : Type 0} (o : Option Bytes) (bytes : Bytes) → IsLonger most_bytes o → length bytes ≤ most_bytes → o ≡ Some bytes → R
 longer_some o bytes h short e = let longer : most_bytes < length bytes = subst (IsLonger most_bytes) e h in absurd (omega (arith, longer, short))
 
-same_bytes : (o : Option Bytes) (a b : Bytes) → o ≡ Some a → o ≡ Some b → a ≡ b
+pub same_bytes : (o : Option Bytes) (a b : Bytes) → o ≡ Some a → o ≡ Some b → a ≡ b
 same_bytes o a b e g = cc
 
 -- ---- the outcomes of what is there
@@ -56,12 +56,12 @@ renamed_end : (es : List Written) (file bytes name text : Bytes) (o : Outcome) �
 renamed_end es file bytes name text o e g h = subst (λ (x : Bytes). IsEnd (item_names es) x bytes o) e (subst (λ (x : Bytes). IsEnd (item_names es) name x o) g h)
 
 -- the call goes on at these bytes, and so they don't end it
-not_ending : {R : Type 0} (es ws : List Written) (name text bytes : Bytes) (o : Outcome) → text ≡ bytes → IsEnd (item_names es) name text o → Says bytes (item_names es) ws → length es + length ws ≤ most_items → R
+pub not_ending : {R : Type 0} (es ws : List Written) (name text bytes : Bytes) (o : Outcome) → text ≡ bytes → IsEnd (item_names es) name text o → Says bytes (item_names es) ws → length es + length ws ≤ most_items → R
 not_ending es ws name text bytes o e h says few =
     let many : length (item_names es) + length ws ≤ most_items = omega (arith, names-length es [], few) in
     no_end (item_names es) name bytes ws o (subst (λ (x : Bytes). IsEnd (item_names es) name x o) e h) says many
 
-one : (n : ℕ) (f : Files) (es : List Written) (files : List Bytes) (s t : Trace) (o p : Outcome) → IsFaultlessTrace f files s → IsFaultlessTrace f files t
+pub one : (n : ℕ) (f : Files) (es : List Written) (files : List Bytes) (s t : Trace) (o p : Outcome) → IsFaultlessTrace f files s → IsFaultlessTrace f files t
     → IsOutcome (IsVerdictAtBudget n) es s o → IsOutcome (IsVerdictAtSomeBudget n) es t p → p ≡ o
 one n f es [] no_more no_more o p h g x y = one-verdict n es o p x y
 one n f es [] no_more t o p h g x y = absurd g

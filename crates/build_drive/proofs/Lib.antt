@@ -6,3 +6,5 @@ pub mod Ends
 pub mod Calls
 pub mod Progress
 pub mod Theorem
+pub mod WrongNames
+pub mod OneOutcome

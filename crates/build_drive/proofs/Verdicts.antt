@@ -1,17 +1,19 @@
 -- The outcome of the check: from the checker's fault to it, and that where the plain check with n units is not spent, there is one.
-use Rattle.std.proofs.Common.{◌≡◌, ◌∙◌, ℕ, true, false, List, [], Option, Some, None, length, refl, sym, ap, ap₂, subst, slice_get, arith}
+use Rattle.std.proofs.Common.{◌≡◌, ◌∙◌, ◌⊎◌, inl, inr, ◌<◌, Bool, ℕ, true, false, List, [], Option, Some, None, length, refl, sym, ap, ap₂, subst, slice_get, arith}
 use Rattle.std.specs.Prelude.{if◌then◌else◌, nat_le}
 use Rattle.std.proofs.lemmas.Bool.Decides.{nat_tests}
 use Rattle.cdle_folder.specs.Files.{Bytes}
 use Rattle.cdle_model.specs.Check.{Reason, not_a_function, not_an_intersection, not_an_equation, wrong_kind, mismatch, erased_use, parts_differ, not_booleans, sides_differ, ListVerdict, accepts, refuses, spends, ends, duplicate, check_items}
 use Rattle.cdle_model.specs.Depth.{depth}
 use Rattle.cdle_model.specs.Forms.{Written, name_of}
-use Rattle.cdle_model.specs.HeadForms.{deep}
+use Rattle.cdle_model.specs.HeadForms.{deep, ill_classed}
 use Rattle.cdle_model.specs.Trees.{Tree}
 use Rattle.cdle_model.specs.declared.grammar.Count.TheVariants.{Depth}
 use Rattle.cdle_model.specs.Classes.{AreScoped}
 use Rattle.cdle_model.proofs.CheckLargerBudget.{list-stays}
-use Rattle.cdle_model.proofs.ItemsChecked.{duplicate-lost, refused-lost}
+use Rattle.std.proofs.lemmas.Option.{slice_get_cases}
+use Rattle.cdle_model.proofs.ClassItems.{list-ends}
+use Rattle.cdle_model.proofs.ItemsChecked.{accepted-derived, duplicate-lost, refused-lost}
 use Rattle.cdle_model.proofs.Undecided.{undecided-spent}
 use Rattle.core_check.specs.Answer.{IsFaultOf}
 use Rattle.core_rules.specs.Reasons.{IsWhy}
@@ -25,7 +27,9 @@ use Rattle.build_drive.specs.Checks.{IsVerdictAtBudget, IsItemName, IsVerdictAtS
 use Rattle.build_drive.specs.declared.outcome.Outcome.{Outcome}
 use Rattle.build_drive.specs.declared.outcome.Outcome.TheVariants as outcome
 use Rattle.build_drive.specs.declared.outcome.Reason.TheVariants.{Core, Duplicate}
+use Rattle.build_drive.specs.declared.outcome.Spot.{Spot}
 use Rattle.build_drive.specs.declared.outcome.Spot.TheVariants.{CoreSpot}
+use Rattle.build_drive.proofs.Numbers.{duplicate-within, ends-within, refused-within}
 
 -- ---- from a fault to its outcome
 
@@ -96,7 +100,7 @@ tells-is ws v o h = absurd h
 
 -- ---- at two budgets
 
-unspent : (ws : List Written) (v : ListVerdict) (o : Outcome) → MatchesVerdict ws v o → (i : ℕ) (p : List ℕ) → v ≡ spends i p → ⊥
+pub unspent : (ws : List Written) (v : ListVerdict) (o : Outcome) → MatchesVerdict ws v o → (i : ℕ) (p : List ℕ) → v ≡ spends i p → ⊥
 unspent ws v o h i p e = subst (λ x. MatchesVerdict ws x o) e h
 
 same-verdict : (n m : ℕ) (ws : List Written) (o p : Outcome) → IsVerdictAtBudget n ws o → IsVerdictAtBudget m ws p → check_items m ws ≡ check_items n ws
@@ -120,3 +124,64 @@ one-verdict n ws o (outcome.ReadFault file) h g = decided-twice n ws o _ h g
 one-verdict n ws o (outcome.WriteFault file) h g = decided-twice n ws o _ h g
 one-verdict n ws o outcome.NoMemory h g = decided-twice n ws o _ h g
 one-verdict n ws o (outcome.Missing file) h g = decided-twice n ws o _ h g
+
+-- ---- there is one
+
+kept-by : (t : Tree) (b : Bool) → nat_le (depth t) 4096 ≡ b → IsKept t (if b then Whole t else Deep)
+kept-by t true e = (refl, grind (arith, nat_tests, e))
+kept-by t false e = grind (arith, nat_tests, e)
+
+kept-there : (t : Tree) → IsKept t (kept t)
+kept-there t = kept-by t (nat_le (depth t) 4096) refl
+
+why-there : (r : Reason) → IsWhy r (why_of r)
+why-there (not_a_function a) = kept-there a
+why-there (not_an_intersection a) = kept-there a
+why-there (not_an_equation a) = kept-there a
+why-there (wrong_kind a None) = kept-there a
+why-there (wrong_kind a (Some b)) = (kept-there a, kept-there b)
+why-there (mismatch a b) = (kept-there a, kept-there b)
+why-there erased_use = tt
+why-there (parts_differ a b) = (kept-there a, kept-there b)
+why-there (not_booleans a b) = (kept-there a, kept-there b)
+why-there (sides_differ a b) = (kept-there a, kept-there b)
+
+item-there : (ws : List Written) (i : ℕ) → i < length ws → (w : Written) × (slice_get ws i ≡ Some w)
+item-there ws i within = elim (slice_get_cases ws i).1 [
+  | inl here ↦ (here.0, here.2)
+  | inr past ↦ absurd (omega (arith, within, past.0))
+]
+
+of-verdict : (n : ℕ) (ws : List Written) (v : ListVerdict) → AreScoped ws → check_items n ws ≡ v → ((o : Outcome) × MatchesVerdict ws v o) ⊎ ((i : ℕ) × (p : List ℕ) × (v ≡ spends i p))
+of-verdict n ws accepts over e = inl (outcome.Ok 0 (length ws), (refl, refl, accepted-derived ws over n e))
+of-verdict n ws (refuses i path reason) over e =
+    let item = item-there ws i (refused-within n ws i path reason e) in
+    inl (outcome.Refused (CoreSpot (name_of item.0) path) (Core (why_of reason)), (((item.0, item.1, refl), refl), why-there reason, refused-lost ws over n i path reason e))
+of-verdict n ws (duplicate i earlier) over e =
+    let item = item-there ws i (duplicate-within n ws i earlier e) in
+    inl (outcome.Refused (CoreSpot (name_of item.0) []) (Duplicate earlier), (((item.0, item.1, refl), refl), refl, duplicate-lost ws over n i earlier e))
+of-verdict n ws (ends i deep) over e = let item = item-there ws i (ends-within n ws i deep e) in inl (outcome.Limit (name_of item.0) Depth, (item.0, item.1, refl))
+of-verdict n ws (ends i ill_classed) over e = absurd (let never = list-ends ws over n i ill_classed e in cc)
+of-verdict n ws (spends i path) over e = inr (i, path, refl)
+
+pub verdict-there : (n : ℕ) (ws : List Written) → AreScoped ws → ((o : Outcome) × IsVerdictAtBudget n ws o) ⊎ ((i : ℕ) × (p : List ℕ) × (check_items n ws ≡ spends i p))
+verdict-there n ws over = of-verdict n ws (check_items n ws) over refl
+
+no-undecided : {R : Type 0} (ws : List Written) (v : ListVerdict) (spot : Spot) (units : ℕ) → MatchesVerdict ws v (outcome.Undecided spot units) → R
+no-undecided ws accepts spot units h = absurd h
+no-undecided ws (refuses i path reason) spot units h = absurd h
+no-undecided ws (duplicate i earlier) spot units h = absurd h
+no-undecided ws (ends i deep) spot units h = absurd h
+no-undecided ws v spot units h = absurd h
+
+pub some-verdict : (n : ℕ) (ws : List Written) (o : Outcome) → IsVerdictAtBudget n ws o → IsVerdictAtSomeBudget n ws o
+some-verdict n ws (outcome.Undecided spot units) h = no-undecided ws (check_items n ws) spot units h
+some-verdict n ws (outcome.Ok modules items) h = (n, h)
+some-verdict n ws (outcome.Refused spot why) h = (n, h)
+some-verdict n ws (outcome.Limit name what) h = (n, h)
+some-verdict n ws (outcome.Malformed file at what) h = (n, h)
+some-verdict n ws outcome.Usage h = (n, h)
+some-verdict n ws (outcome.ReadFault file) h = (n, h)
+some-verdict n ws (outcome.WriteFault file) h = (n, h)
+some-verdict n ws outcome.NoMemory h = (n, h)
+some-verdict n ws (outcome.Missing file) h = (n, h)

@@ -9,10 +9,12 @@
 mod check;
 mod command;
 mod done;
+mod laws;
 mod outcome;
 mod reading;
 mod reports;
 
 pub use command::core_command;
 pub use done::Done;
+pub use laws::one_outcome_where_nothing_fails;
 pub use outcome::{Badness, Outcome, Reason, Spot};

@@ -1,6 +1,6 @@
 -- What the end of a call says, by the work.
 use Rattle.std.proofs.Common.{◌≡◌, ◌∙◌, ◌⊎◌, inl, inr, ℕ, List, [], Option, Some, None, length, sym, subst}
-use Rattle.cdle_folder.specs.Causes.{Quiet}
+use Rattle.cdle_folder.specs.Causes.{Quiet, Rose}
 use Rattle.cdle_folder.proofs.Causes.{no_rise}
 use Rattle.cdle_folder.specs.Files.{Bytes, Files}
 use Rattle.cdle_model.specs.Check.{accepts, check_items}
@@ -14,7 +14,7 @@ use Rattle.build_drive.specs.declared.outcome.Reason.{Reason}
 use Rattle.build_drive.specs.declared.outcome.Spot.{Spot}
 use Rattle.cdle_call.specs.Run.{Ends, IsRun, SinkChange}
 use Rattle.cdle_call.specs.Work.{IsAccepted, IsDetermined, IsRefused, IsSpent}
-use Rattle.cdle_call.proofs.Work.{accepted_work, complete_work, exact_work, refused_work, undecided_work, usage_work}
+use Rattle.cdle_call.proofs.Work.{accepted_work, complete_work, exact_work, no_command_work, refused_work, undecided_work, usage_work}
 
 -- the work has it, and not the putting of its report
 abbrev IsOfWork : Outcome → Type 0
@@ -27,6 +27,16 @@ stands out report work end o k (inr e) f = absurd (subst IsOfWork (sym f ∙ e.0
 
 pub usage_end : (c : Option Command) (v : FolderChange) (out : SinkChange) (end : Outcome) → IsRun c v out end → end ≡ outcome.Usage → c ≡ None
 usage_end c v out end r e = usage_work c v r.done r.work (stands out _ r.done.outcome end outcome.Usage tt r.ends e)
+
+no_command_put : (out : SinkChange) (report : Bytes) (work end : Outcome) → (work ≡ outcome.Usage) ⊎ (work ≡ outcome.NoMemory) → Ends out report work end
+    → (end ≡ outcome.Usage) ⊎ ((end ≡ outcome.NoMemory) ⊎ (end ≡ outcome.WriteFault None) × Rose out.before.faults out.after.faults)
+no_command_put out report work end (inl usage) (inl e) = inl (e.0 ∙ usage)
+no_command_put out report work end (inr none) (inl e) = inr (inl (e.0 ∙ none))
+no_command_put out report work end h (inr e) = inr (inr (e.0, e.1))
+
+pub no_command_end : (c : Option Command) (v : FolderChange) (out : SinkChange) (end : Outcome) → IsRun c v out end → c ≡ None
+    → (end ≡ outcome.Usage) ⊎ ((end ≡ outcome.NoMemory) ⊎ (end ≡ outcome.WriteFault None) × Rose out.before.faults out.after.faults)
+no_command_end c v out end r e = no_command_put out _ r.done.outcome end (no_command_work c v r.done r.work e) r.ends
 
 pub accepted_end : (c : Option Command) (v : FolderChange) (out : SinkChange) (end : Outcome) (modules items : ℕ) → IsRun c v out end → end ≡ outcome.Ok modules items → IsAccepted c v items
 accepted_end c v out end modules items r e = accepted_work c v r.done modules items r.work (stands out _ r.done.outcome end (outcome.Ok modules items) tt r.ends e)

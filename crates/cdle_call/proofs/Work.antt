@@ -41,6 +41,11 @@ usage_work None v d h e = refl
 usage_work (Some (core files n)) v d (inl none) e = absurd (let x = none.0 in cc)
 usage_work (Some (core files n)) v d (inr w) e = no_usage n [] w.0 (subst (IsOutcome (IsVerdictAtSomeBudget n) [] w.0) e w.2)
 
+pub no_command_work : (command : Option Command) (v : FolderChange) (d : Done) → IsWork command v d → command ≡ None → (d.outcome ≡ outcome.Usage) ⊎ (d.outcome ≡ outcome.NoMemory)
+no_command_work None v d (inl none) e = inr none.0
+no_command_work None v d (inr u) e = inl u.0
+no_command_work (Some (core files n)) v d h e = absurd cc
+
 -- ---- the command's theorem
 
 pub accepted_work : (command : Option Command) (v : FolderChange) (d : Done) (modules items : ℕ) → IsWork command v d → d.outcome ≡ outcome.Ok modules items → IsAccepted command v items

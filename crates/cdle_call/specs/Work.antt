@@ -1,9 +1,11 @@
 -- What the words of a call come to, before its report is put.
-use Rattle.std.specs.Prelude.{◌≡◌, ◌⊎◌, ℕ, [], Option, Some, None}
+use Rattle.std.specs.Prelude.{◌≡◌, ◌⊎◌, ℕ, List, [], Option, Some, None}
 use Rattle.cdle_folder.specs.Files.{Files}
+use Rattle.cdle_model.specs.Check.{check_items, spends}
+use Rattle.cdle_model.specs.Forms.{Written}
 use Rattle.cdle_words.specs.Words.{Command, core}
 use Rattle.build_drive.specs.Answers.{IsOutcome}
-use Rattle.build_drive.specs.Calls.{AreAccepted, AreRefused, AreUndecided, IsCall, IsReported}
+use Rattle.build_drive.specs.Calls.{AreAccepted, AreReadable, AreRefused, AreUndecided, IsCall, IsReported}
 use Rattle.build_drive.specs.Checks.{IsVerdictAtBudget}
 use Rattle.build_drive.specs.Traces.{IsFaultlessTrace, Trace, FolderChange}
 use Rattle.build_drive.specs.declared.done.Done.{Done}
@@ -43,3 +45,8 @@ IsSpent (Some (core files budget)) v place units = (units ≡ budget) × AreUnde
 abbrev pub IsDetermined : Option Command → Files → Outcome → Type 0
 IsDetermined None f o = o ≡ outcome.Usage
 IsDetermined (Some (core files budget)) f o = (s : Trace) × IsFaultlessTrace f files s × IsOutcome (IsVerdictAtBudget budget) [] s o
+
+-- the words ask for files, and what these say spends the plain check with the words' budget
+abbrev pub IsSpentOver : Option Command → Files → Type 0
+IsSpentOver None f = ⊥
+IsSpentOver (Some (core files budget)) f = (all : List Written) × AreReadable f [] files all × (i : ℕ) × (path : List ℕ) × (check_items budget all ≡ spends i path)

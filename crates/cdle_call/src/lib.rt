@@ -5,7 +5,9 @@
 //! answer has its cause. It stands on the command `core` (`build_drive`), the words (`cdle_words`), and the folder and sink (`cdle_folder`).
 #![tactic(auto)]
 
+mod laws;
 mod run;
 
 pub use build_drive::{Badness, Outcome, Reason, Spot};
+pub use laws::one_outcome_is_determined;
 pub use run::{Exit, cdle_run};

@@ -1,6 +1,6 @@
 //! The top call.
 ghost use Rattle.std.specs.Prelude.{◌≡◌, ◌⊎◌, [], ℕ, List, None, Some, length, map, string_bytes};
-ghost use Rattle.cdle_folder.specs.Causes.{Quiet};
+ghost use Rattle.cdle_folder.specs.Causes.{Quiet, Rose};
 ghost use Rattle.cdle_folder.specs.Files.{Bytes, Files};
 ghost use Rattle.cdle_model.specs.Check.{accepts, check_items};
 ghost use Rattle.cdle_model.specs.Forms.{Written};
@@ -40,8 +40,12 @@ pub fn cdle_run<F: Folder, S: Sink>(
         (record { before = F.state folder.old; after = F.state folder.new })
         (record { before = S.state out.old; after = S.state out.new }) result.outcome }
 
-    // Usage is answered only where the words are no command; that it is answered where they are none is said under `call` and `exact`.
+    // Usage is answered only where the words are no command.
     ensures usage { result.outcome ≡ outcomes.Usage → command_of (map string_bytes words.now.items) ≡ None }
+
+    // Where they are none it is answered, or want of memory, or that the report was not put, which the sink counted in this call.
+    ensures no_command { command_of (map string_bytes words.now.items) ≡ None → (result.outcome ≡ outcomes.Usage) ⊎ ((result.outcome ≡ outcomes.NoMemory)
+        ⊎ (result.outcome ≡ outcomes.WriteFault None) × Rose (S.state out.old).faults (S.state out.new).faults) }
 
     // Accepted: each file of the words is read to its end, in their order, and the list of all items has a derivation.
     ensures accepted { (modules items : ℕ) → result.outcome ≡ outcomes.Ok modules items → IsAccepted (command_of (map string_bytes words.now.items))

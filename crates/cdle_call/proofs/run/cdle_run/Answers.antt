@@ -1,6 +1,6 @@
 use Rattle.build_drive.specs.Traces.{FolderChange}
 use Rattle.cdle_call.specs.Run.{SinkChange}
-use Rattle.cdle_call.proofs.Ends.{accepted_end, complete_end, exact_end, refused_end, undecided_end, usage_end}
+use Rattle.cdle_call.proofs.Ends.{accepted_end, complete_end, exact_end, no_command_end, refused_end, undecided_end, usage_end}
 use Rattle.cdle_call.proofs.run.cdle_run.Goals as goal
 
 pub returns-clause-usage : goal.returns-clause-usage
@@ -8,6 +8,12 @@ returns-clause-usage g c =
     let v : FolderChange = record { before = g.F.Folder.state c.args.folder.now; after = g.F.Folder.state c.work-done.new.folder } in
     let out : SinkChange = record { before = g.S.Sink.state c.args.out.now; after = g.S.Sink.state c.put_report-outcome.new.out } in
     λ e. usage_end _ v out _ (record { done = c.work-done.result; work = c.work-done.ensures.work; ends = c.put_report-outcome.ensures }) e
+
+pub returns-clause-no_command : goal.returns-clause-no_command
+returns-clause-no_command g c =
+    let v : FolderChange = record { before = g.F.Folder.state c.args.folder.now; after = g.F.Folder.state c.work-done.new.folder } in
+    let out : SinkChange = record { before = g.S.Sink.state c.args.out.now; after = g.S.Sink.state c.put_report-outcome.new.out } in
+    λ e. no_command_end _ v out _ (record { done = c.work-done.result; work = c.work-done.ensures.work; ends = c.put_report-outcome.ensures }) e
 
 pub returns-clause-accepted : goal.returns-clause-accepted
 returns-clause-accepted g c =
