@@ -51,7 +51,7 @@ pub enum GuideViewForm {
 }
 
 /// The head of an erased type alone.
-#[derive(Clone, Copy, Debug, PartialEq, Eq)]
+#[derive(Clone, Copy)]
 pub enum GuideTop {
     Var(u32),
     Name(u32),

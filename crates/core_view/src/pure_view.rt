@@ -45,7 +45,7 @@ pub enum PureViewForm {
 }
 
 /// The head of a pure term alone.
-#[derive(Clone, Copy, Debug, PartialEq, Eq)]
+#[derive(Clone, Copy)]
 pub enum PureTop {
     Var,
     Name(u32),
