@@ -2,7 +2,7 @@
 ghost use Rattle.std.specs.Prelude.{◌≡◌, ℕ, ◌++◌, ◌<◌, ◌≤◌, ◌∷◌, [], IfOk, IsFalse, IsTrue, List, drop, length};
 ghost use Rattle.cdle_model.specs.Classes.{Fits, IsOf, UsedAs, guides, item_sorts, pure_terms, within};
 ghost use Rattle.cdle_model.specs.Derivation.{bodies, signature};
-ghost use Rattle.cdle_model.specs.Forms.{fn, guide_tlam, guide_xtlam};
+ghost use Rattle.cdle_model.specs.Forms.{ap, at_, fn, guide_tlam, guide_xtlam, on};
 ghost use Rattle.cdle_model.specs.Trees.{IsBelow, Tree, apply, name};
 ghost use Rattle.cdle_model.specs.declared.grammar.Sort.{Sort};
 ghost use Rattle.cdle_model.specs.declared.grammar.Sort.TheVariants.{OfTerm, OfType as OfTypes};
@@ -257,10 +257,7 @@ fn step_pure_own(
     match now.form() {
         PureForm::Name(item) => unfold(items, *item, budget),
         PureForm::Function(body) => apply_ap(alloc, &PureView::of_pure(body)?, args, budget),
-        PureForm::Ap(head, arg) => {
-            args.push(Arg::Ap(PureView::of_pure(arg)?))?;
-            Ok(Root::Pure(PureView::of_pure(head)?))
-        }
+        PureForm::Ap(head, arg) => unwind_ap(head, arg, args),
         PureForm::Var(_) => unreachable!(),
     }
 }
@@ -321,14 +318,8 @@ fn step_guide_own(
         GuideForm::Name(item) => unfold(items, *item, budget),
         GuideForm::Tlam(body) => apply_at(alloc, &GuideView::of_guide(body)?, args, budget),
         GuideForm::Xtlam(body) => apply_on(alloc, &GuideView::of_guide(body)?, args, budget),
-        GuideForm::At(head, arg) => {
-            args.push(Arg::At(PureView::of_pure(arg)?))?;
-            Ok(Root::Guide(GuideView::of_guide(head)?))
-        }
-        GuideForm::On(head, arg) => {
-            args.push(Arg::On(GuideView::of_guide(arg)?))?;
-            Ok(Root::Guide(GuideView::of_guide(head)?))
-        }
+        GuideForm::At(head, arg) => unwind_at(head, arg, args),
+        GuideForm::On(head, arg) => unwind_on(head, arg, args),
         _ => unreachable!(),
     }
 }
@@ -356,7 +347,29 @@ fn step_guide_read(
     }
 }
 
-/// The head of an application, of which the argument is put on the list.
+/// The head of an application at its own node, of which the argument is put on the list.
+fn unwind_ap(head: &Pure, arg: &Pure, args: &mut Vec<Arg>) -> Result<Root, Stop>
+    ensures { (s : List Tree) (units : ℕ) → MeetsStep s OfPure (ap head.now arg.now) args.old.items units args.new.items units result }
+{
+    args.push(Arg::Ap(PureView::of_pure(arg)?))?;
+    Ok(Root::Pure(PureView::of_pure(head)?))
+}
+
+fn unwind_at(head: &Guide, arg: &Pure, args: &mut Vec<Arg>) -> Result<Root, Stop>
+    ensures { (s : List Tree) (units : ℕ) → MeetsStep s OfType (at_ head.now arg.now) args.old.items units args.new.items units result }
+{
+    args.push(Arg::At(PureView::of_pure(arg)?))?;
+    Ok(Root::Guide(GuideView::of_guide(head)?))
+}
+
+fn unwind_on(head: &Guide, arg: &Guide, args: &mut Vec<Arg>) -> Result<Root, Stop>
+    ensures { (s : List Tree) (units : ℕ) → MeetsStep s OfType (on head.now arg.now) args.old.items units args.new.items units result }
+{
+    args.push(Arg::On(GuideView::of_guide(arg)?))?;
+    Ok(Root::Guide(GuideView::of_guide(head)?))
+}
+
+/// The same of an application that was read.
 fn unwind(head: Root, arg: Arg, args: &mut Vec<Arg>) -> Result<Root, Stop>
     ensures { (s : List Tree) (units : ℕ) → MeetsStep s (root_class head) (apply (arg_function arg) (root_tree head) (arg_tree arg)) args.old.items units args.new.items units result }
 {

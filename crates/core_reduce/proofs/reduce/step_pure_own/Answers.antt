@@ -1,15 +1,11 @@
-use Rattle.std.proofs.Common.{◌++◌, ◌∷◌, [], ◌∙◌, ap, sym, subst, refl, Ok}
-use Rattle.cdle_model.specs.Trees.{of_pure}
+use Rattle.std.proofs.Common.{◌∙◌, ap, sym, subst}
 use Rattle.cdle_model.specs.Forms.{fn}
 use Rattle.cdle_model.specs.Classes.{item_sorts}
 use Rattle.cdle_model.specs.Derivation.{bodies, signature}
 use Rattle.core_tree.specs.Forms.{pure_tree}
-use Rattle.core_reduce.specs.declared.root.Root.TheVariants as r
-use Rattle.core_reduce.specs.declared.root.Arg.TheVariants.{Ap}
 use Rattle.core_reduce.specs.declared.side.SideClass.TheVariants.{OfPure}
 use Rattle.core_reduce.specs.Heads.{MeetsStep}
 use Rattle.core_reduce.proofs.Placing.{placed_name, name_below}
-use Rattle.core_reduce.proofs.Steps.{app_unwinds}
 use Rattle.core_reduce.proofs.reduce.step_pure_own.Goals as goal
 
 pub unfold-requires : goal.unfold-requires
@@ -28,11 +24,7 @@ returns-in_ok-of_pure-in-Function-clause-step c =
     subst (λ z. MeetsStep (bodies (signature c.args.items.now)) OfPure z c.args.args.now.items c.args.budget.now.left c.apply_ap-in-Function.new.args.items c.apply_ap-in-Function.new.budget.left c.apply_ap-in-Function.result)
     (sym e) (c.apply_ap-in-Function.ensures.step (bodies (signature c.args.items.now)))
 
-pub returns-in_ok-of_pure-in-Ap-2-clause-step : goal.returns-in_ok-of_pure-in-Ap-2-clause-step
-returns-in_ok-of_pure-in-Ap-2-clause-step c =
-    subst (λ z. MeetsStep (bodies (signature c.args.items.now)) OfPure c.args.now.now c.args.args.now.items c.args.budget.now.left z c.args.budget.now.left (Ok (r.Pure c.in_ok-of_pure-in-Ap-2.field-0)))
-    (sym c.in_ok-push-in-Ap.ensures.items)
-    (subst (λ z. MeetsStep (bodies (signature c.args.items.now)) OfPure z c.args.args.now.items c.args.budget.now.left (c.args.args.now.items ++ Ap c.in_ok-of_pure-in-Ap.field-0 ∷ []) c.args.budget.now.left (Ok (r.Pure c.in_ok-of_pure-in-Ap-2.field-0)))
-    (sym (sym c.form.ensures.is ∙ ap pure_tree c.in-Ap.is))
-    (app_unwinds (bodies (signature c.args.items.now)) OfPure of_pure c.in-Ap.head c.in-Ap.arg c.args.args.now.items (Ap c.in_ok-of_pure-in-Ap.field-0) c.args.budget.now.left
-    (r.Pure c.in_ok-of_pure-in-Ap-2.field-0) refl c.in_ok-of_pure-in-Ap.ensures c.in_ok-of_pure-in-Ap-2.ensures refl))
+pub returns-in-Ap-clause-step : goal.returns-in-Ap-clause-step
+returns-in-Ap-clause-step c =
+    subst (λ z. MeetsStep (bodies (signature c.args.items.now)) OfPure z c.args.args.now.items c.args.budget.now.left c.unwind_ap.new.args.items c.args.budget.now.left c.unwind_ap.result)
+    (sym (sym c.form.ensures.is ∙ ap pure_tree c.in-Ap.is)) (c.unwind_ap.ensures (bodies (signature c.args.items.now)) c.args.budget.now.left)
