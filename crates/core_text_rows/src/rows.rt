@@ -18,7 +18,11 @@ fn read(alloc: Global, text: &[u8], known: &CoreScope) -> Result<CoreFile, CoreT
 }
 
 /// The items of the second text behind those of the first.
-pub(crate) fn read_behind(alloc: Global, first: &[u8], second: &[u8]) -> Result<CoreFile, CoreTextFault> {
+pub(crate) fn read_behind(
+    alloc: Global,
+    first: &[u8],
+    second: &[u8],
+) -> Result<CoreFile, CoreTextFault> {
     let mut known = CoreScope::new(alloc);
     let file = read(alloc, first, &known)?;
     known.add(alloc, &file)?;
