@@ -6,21 +6,22 @@
 #![tactic(auto)]
 
 ghost use Rattle.std.specs.Prelude.{◌≡◌};
-ghost use Rattle.cdle_model.specs.Classes.{guide_kinds, guides, item_sorts, pure_terms};
-ghost use Rattle.core_compare_rows.specs.Closed.{IsClosed, sorts};
+ghost use Rattle.core_reduce.specs.Sides.{class_trees};
+ghost use Rattle.core_compare_rows.specs.Closed.{IsClosed};
 
 mod items;
 mod pure;
+mod rows;
 mod types;
 
 use core_compare::{Answer, compare};
-use core_reduce::{Budget, CheckedItems, Side, Stop, Value};
-use core_tree::{Guide, GuideKind, Pure};
+use core_reduce::{Budget, Side, Stop, Value};
 use items::three_items;
-use pure::pure_row;
+use pure::{PureShape, pure_side};
+use rows::{Row, row_of};
 use std::alloc::Global;
 use std::{fmt, io};
-use types::{kind_row, type_row};
+use types::{TypeShape, functions_side, predicates_side, type_side};
 
 /// A head form, as it is printed.
 #[derive(Drop)]
@@ -41,101 +42,91 @@ impl<'a> fmt::Display for Head<'a> {
     }
 }
 
-fn compare_pure(
+/// The comparison of two closed sides of one class, over the three items.
+fn compare_sides(
     alloc: Global,
-    items: &CheckedItems,
-    pair: &(Pure, Pure),
+    left: &Side,
+    right: &Side,
     budget: &mut Budget,
 ) -> Result<Answer, Stop>
-    requires items { item_sorts items.now ≡ sorts }
-    requires left { IsClosed pure_terms pair.now.0 }
-    requires right { IsClosed pure_terms pair.now.1 }
+    requires class { left.now.class ≡ right.now.class }
+    requires left { IsClosed (class_trees left.now.class) left.now.tree }
+    requires right { IsClosed (class_trees left.now.class) right.now.tree }
 {
-    let left = Side::of_pure(alloc, &pair.0)?;
-    let right = Side::of_pure(alloc, &pair.1)?;
-    compare(alloc, items, &left, &right, budget)
+    let items = three_items(alloc)?;
+    compare(alloc, &items, left, right, budget)
+}
+
+fn compare_pure(
+    alloc: Global,
+    left: PureShape,
+    right: PureShape,
+    size: u32,
+    budget: &mut Budget,
+) -> Result<Answer, Stop> {
+    let left = pure_side(alloc, left, size)?;
+    let right = pure_side(alloc, right, size)?;
+    compare_sides(alloc, &left, &right, budget)
 }
 
 fn compare_types(
     alloc: Global,
-    items: &CheckedItems,
-    pair: &(Guide, Guide),
-    budget: &mut Budget,
-) -> Result<Answer, Stop>
-    requires items { item_sorts items.now ≡ sorts }
-    requires left { IsClosed guides pair.now.0 }
-    requires right { IsClosed guides pair.now.1 }
-{
-    let left = Side::of_guide(alloc, &pair.0)?;
-    let right = Side::of_guide(alloc, &pair.1)?;
-    compare(alloc, items, &left, &right, budget)
-}
-
-fn compare_kinds(
-    alloc: Global,
-    items: &CheckedItems,
-    pair: &(GuideKind, GuideKind),
-    budget: &mut Budget,
-) -> Result<Answer, Stop>
-    requires items { item_sorts items.now ≡ sorts }
-    requires left { IsClosed guide_kinds pair.now.0 }
-    requires right { IsClosed guide_kinds pair.now.1 }
-{
-    let left = Side::of_guide_kind(alloc, &pair.0)?;
-    let right = Side::of_guide_kind(alloc, &pair.1)?;
-    compare(alloc, items, &left, &right, budget)
-}
-
-/// The comparison of that row; none where there is no such row.
-fn compared(
-    alloc: Global,
-    row: &str,
+    left: TypeShape,
+    right: TypeShape,
     size: u32,
     budget: &mut Budget,
-) -> Result<Option<Answer>, Stop> {
-    let items = three_items(alloc)?;
-    if let Some(pair) = pure_row(alloc, row, size)? {
-        return Ok(Some(compare_pure(alloc, &items, &pair, budget)?));
+) -> Result<Answer, Stop> {
+    let left = type_side(alloc, left, size)?;
+    let right = type_side(alloc, right, size)?;
+    compare_sides(alloc, &left, &right, budget)
+}
+
+fn compare_kinds(alloc: Global, budget: &mut Budget) -> Result<Answer, Stop> {
+    let left = functions_side(alloc)?;
+    let right = predicates_side(alloc)?;
+    compare_sides(alloc, &left, &right, budget)
+}
+
+/// The comparison of that row, at that size.
+fn compared(alloc: Global, row: Row, size: u32, budget: &mut Budget) -> Result<Answer, Stop> {
+    match row {
+        Row::Pure(left, right) => compare_pure(alloc, left, right, size, budget),
+        Row::Types(left, right) => compare_types(alloc, left, right, size, budget),
+        Row::Kinds => compare_kinds(alloc, budget),
     }
-    if let Some(pair) = type_row(alloc, row, size)? {
-        return Ok(Some(compare_types(alloc, &items, &pair, budget)?));
-    }
-    if row == "kinds" {
-        let pair = kind_row(alloc)?;
-        return Ok(Some(compare_kinds(alloc, &items, &pair, budget)?));
-    }
-    Ok(None)
 }
 
 /// The line with what became of its comparison, and the units that are left.
-fn print(
-    rt: &HostRuntime,
-    line: &str,
-    answer: &Result<Option<Answer>, Stop>,
-    left: u64,
-) -> io::Result<()> {
+fn print(rt: &HostRuntime, line: &str, answer: &Result<Answer, Stop>, left: u64) -> io::Result<()> {
     match answer {
-        Ok(Some(Answer::Same)) => println!(rt; "{line}: same, left {left}"),
-        Ok(Some(Answer::Apart { left: a, right: b })) => {
+        Ok(Answer::Same) => println!(rt; "{line}: same, left {left}"),
+        Ok(Answer::Apart { left: a, right: b }) => {
             let a = Head { value: a };
             let b = Head { value: b };
             println!(rt; "{line}: apart at {a} and {b}, left {left}")
         }
-        Ok(None) => println!(rt; "{line}: no such row"),
         Err(stop) => println!(rt; "{line}: {stop:?}, left {left}"),
     }
+}
+
+/// The comparison that the line asks for, printed behind it.
+fn compare_line(rt: &HostRuntime, line: &str) -> io::Result<()> {
+    let mut words = line.split_whitespace();
+    let row = row_of(words.next().unwrap_or(""));
+    let units: u64 = words.next().unwrap_or("").parse().unwrap_or(0);
+    let size: u32 = words.next().unwrap_or("").parse().unwrap_or(0);
+    let Some(row) = row else {
+        return println!(rt; "{line}: no such row");
+    };
+    let mut budget = Budget::new(units);
+    let answer = compared(rt.alloc(), row, size, &mut budget);
+    print(rt, line, &answer, budget.left)
 }
 
 fn main(rt: HostRuntime) -> io::Result<()> {
     for line in rt.lines(rt.alloc()) {
         let line = line?;
-        let mut words = line.as_str().split_whitespace();
-        let row = words.next().unwrap_or("");
-        let units: u64 = words.next().unwrap_or("").parse().unwrap_or(0);
-        let size: u32 = words.next().unwrap_or("").parse().unwrap_or(0);
-        let mut budget = Budget::new(units);
-        let answer = compared(rt.alloc(), row, size, &mut budget);
-        print(&rt, line.as_str(), &answer, budget.left)?;
+        compare_line(&rt, line.as_str())?;
     }
     Ok(())
 }

@@ -1,17 +1,80 @@
-//! Pure terms, closed over the items, and the rows that compare two of them.
-ghost use Rattle.std.specs.Prelude.{◌≡◌, ◌<◌, IfOk, IfSome};
+//! Pure terms, closed over the items, as the rows compare them.
+ghost use Rattle.std.specs.Prelude.{◌≡◌, ◌<◌, IfOk};
 ghost use Rattle.cdle_model.specs.Classes.{pure_terms};
 ghost use Rattle.cdle_model.specs.Forms as forms;
-ghost use Rattle.core_compare_rows.specs.Closed.{IsClosed};
+ghost use Rattle.cdle_model.specs.Trees.{var};
+ghost use Rattle.core_compare_rows.specs.Closed.{IsClosed, IsClosedSide};
+ghost use Rattle.core_reduce.specs.declared.side.SideClass.TheVariants.{OfPure};
 
+use core_reduce::Side;
 use core_tree::{NoMemory, Pure};
 use std::alloc::Global;
 
-/// Two pure terms.
-type Pair = (Pure, Pure);
+/// A pure term of the rows.
+#[derive(Clone, Copy)]
+pub(crate) enum PureShape {
+    /// `fn x. x`
+    Identity,
+    /// What contracts to itself.
+    Omega,
+    /// The first of two, the identity and what has no head form.
+    FirstOfTwo,
+    /// `fn x. fn y. x`
+    First,
+    /// `fn x. fn y. y`
+    Second,
+    /// `fn x. fn y. x y`
+    FirstOnSecond,
+    /// `fn x. fn y. y y`
+    SecondOnSecond,
+    /// `fn x. fn y. x y x`
+    FirstOnSecondAndFirst,
+    /// `fn x. fn y. x y y`
+    FirstOnSecondTwice,
+    /// `fn x. fn y. x y .. y`
+    AppliedOften,
+    /// `fn x. fn y. fn z. x y .. y z`
+    AppliedOnceMore,
+    /// The name of the first item.
+    Name,
+    /// The name of the second item.
+    OtherName,
+    /// The name of the first item, applied to the identity.
+    AppliedName,
+}
+
+/// The side of that term, at that size.
+pub(crate) fn pure_side(alloc: Global, shape: PureShape, size: u32) -> Result<Side, NoMemory>
+    ensures { IfOk result (λ s. IsClosedSide OfPure s) }
+{
+    let term = shaped(alloc, shape, size)?;
+    Side::of_pure(alloc, &term)
+}
+
+/// The term itself.
+fn shaped(alloc: Global, shape: PureShape, size: u32) -> Result<Pure, NoMemory>
+    ensures { IfOk result (λ t. IsClosed pure_terms t) }
+{
+    match shape {
+        PureShape::Identity => identity(alloc),
+        PureShape::Omega => omega(alloc),
+        PureShape::FirstOfTwo => first_of_two(alloc),
+        PureShape::First => one_of_two(alloc, 1),
+        PureShape::Second => one_of_two(alloc, 0),
+        PureShape::FirstOnSecond => applied_under_two(alloc, 1, 0),
+        PureShape::SecondOnSecond => applied_under_two(alloc, 0, 0),
+        PureShape::FirstOnSecondAndFirst => two_arguments(alloc, 0, 1),
+        PureShape::FirstOnSecondTwice => two_arguments(alloc, 0, 0),
+        PureShape::AppliedOften => applied_often(alloc, size),
+        PureShape::AppliedOnceMore => applied_once_more(alloc, size),
+        PureShape::Name => Pure::name(alloc, 0),
+        PureShape::OtherName => Pure::name(alloc, 1),
+        PureShape::AppliedName => applied_name(alloc),
+    }
+}
 
 /// The application, unless it would be deeper than a tree can be.
-pub(crate) fn ap(alloc: Global, head: Pure, arg: Pure) -> Result<Pure, NoMemory>
+fn ap(alloc: Global, head: Pure, arg: Pure) -> Result<Pure, NoMemory>
     ensures { IfOk result (λ t. t ≡ forms.ap head arg) }
 {
     if head.depth().max(arg.depth()) >= 65_535 {
@@ -30,6 +93,29 @@ fn function(alloc: Global, body: Pure) -> Result<Pure, NoMemory>
     Pure::function(alloc, &body)
 }
 
+/// The function of two variables with that body.
+fn function_of_two(alloc: Global, body: Pure) -> Result<Pure, NoMemory>
+    ensures { IfOk result (λ t. t ≡ forms.fn (forms.fn body)) }
+{
+    function(alloc, function(alloc, body)?)
+}
+
+/// The variable `left`, applied to the variable `right`.
+fn variables(alloc: Global, left: u32, right: u32) -> Result<Pure, NoMemory>
+    ensures { IfOk result (λ t. t ≡ forms.ap (var left) (var right)) }
+{
+    let head = Pure::var(alloc, left)?;
+    let arg = Pure::var(alloc, right)?;
+    Pure::ap(alloc, &head, &arg)
+}
+
+/// The application to a variable.
+fn on_variable(alloc: Global, head: Pure, variable: u32) -> Result<Pure, NoMemory>
+    ensures { IfOk result (λ t. t ≡ forms.ap head (var variable)) }
+{
+    ap(alloc, head, Pure::var(alloc, variable)?)
+}
+
 /// `fn x. x`
 pub(crate) fn identity(alloc: Global) -> Result<Pure, NoMemory>
     ensures { IfOk result (λ t. IsClosed pure_terms t) }
@@ -41,10 +127,7 @@ pub(crate) fn identity(alloc: Global) -> Result<Pure, NoMemory>
 fn twice(alloc: Global) -> Result<Pure, NoMemory>
     ensures { IfOk result (λ t. IsClosed pure_terms t) }
 {
-    function(
-        alloc,
-        ap(alloc, Pure::var(alloc, 0)?, Pure::var(alloc, 0)?)?,
-    )
+    function(alloc, variables(alloc, 0, 0)?)
 }
 
 /// What contracts to itself.
@@ -60,8 +143,7 @@ fn applied_under_two(alloc: Global, left: u32, right: u32) -> Result<Pure, NoMem
     requires right { right < 2 }
     ensures { IfOk result (λ t. IsClosed pure_terms t) }
 {
-    let body = ap(alloc, Pure::var(alloc, left)?, Pure::var(alloc, right)?)?;
-    function(alloc, function(alloc, body)?)
+    function_of_two(alloc, variables(alloc, left, right)?)
 }
 
 /// `fn x. fn y. x` for 1, and `fn x. fn y. y` for 0.
@@ -69,7 +151,7 @@ fn one_of_two(alloc: Global, index: u32) -> Result<Pure, NoMemory>
     requires { index < 2 }
     ensures { IfOk result (λ t. IsClosed pure_terms t) }
 {
-    function(alloc, function(alloc, Pure::var(alloc, index)?)?)
+    function_of_two(alloc, Pure::var(alloc, index)?)
 }
 
 /// The first of two, the identity and what has no head form.
@@ -86,20 +168,18 @@ fn two_arguments(alloc: Global, first: u32, second: u32) -> Result<Pure, NoMemor
     requires second { second < 2 }
     ensures { IfOk result (λ t. IsClosed pure_terms t) }
 {
-    let half = ap(alloc, Pure::var(alloc, 1)?, Pure::var(alloc, first)?)?;
-    let body = ap(alloc, half, Pure::var(alloc, second)?)?;
-    function(alloc, function(alloc, body)?)
+    let half = variables(alloc, 1, first)?;
+    function_of_two(alloc, on_variable(alloc, half, second)?)
 }
 
 /// `fn e. fn x. fn y. e (e x y) y`: it makes of a function that applies x so often to y one that does it twice as often.
 fn doubling(alloc: Global) -> Result<Pure, NoMemory>
     ensures { IfOk result (λ t. IsClosed pure_terms t) }
 {
-    let inner = ap(alloc, Pure::var(alloc, 2)?, Pure::var(alloc, 1)?)?;
-    let inner = ap(alloc, inner, Pure::var(alloc, 0)?)?;
+    let inner = on_variable(alloc, variables(alloc, 2, 1)?, 0)?;
     let outer = ap(alloc, Pure::var(alloc, 2)?, inner)?;
-    let body = ap(alloc, outer, Pure::var(alloc, 0)?)?;
-    function(alloc, function(alloc, function(alloc, body)?)?)
+    let body = on_variable(alloc, outer, 0)?;
+    function(alloc, function_of_two(alloc, body)?)
 }
 
 /// `fn x. fn y. x y .. y`, as a tree of that many doublings. It has `2 ^ doublings` arguments.
@@ -117,12 +197,17 @@ fn applied_often(alloc: Global, doublings: u32) -> Result<Pure, NoMemory>
 fn applied_once_more(alloc: Global, doublings: u32) -> Result<Pure, NoMemory>
     ensures { IfOk result (λ t. IsClosed pure_terms t) }
 {
-    let body = ap(alloc, Pure::var(alloc, 3)?, Pure::var(alloc, 2)?)?;
-    let body = ap(alloc, body, Pure::var(alloc, 1)?)?;
-    let body = ap(alloc, body, Pure::var(alloc, 0)?)?;
-    let body = function(alloc, function(alloc, body)?)?;
-    let more = function(alloc, function(alloc, body)?)?;
+    let more = once_more(alloc)?;
     ap(alloc, more, applied_often(alloc, doublings)?)
+}
+
+/// `fn e. fn x. fn y. fn z. e x y z`
+fn once_more(alloc: Global) -> Result<Pure, NoMemory>
+    ensures { IfOk result (λ t. IsClosed pure_terms t) }
+{
+    let body = on_variable(alloc, variables(alloc, 3, 2)?, 1)?;
+    let body = function_of_two(alloc, on_variable(alloc, body, 0)?)?;
+    function_of_two(alloc, body)
 }
 
 /// The identity with that many functions `fn x. x x` applied to it, one to the other.
@@ -144,13 +229,20 @@ pub(crate) fn growing(alloc: Global) -> Result<Pure, NoMemory>
     ap(alloc, both, identity(alloc)?)
 }
 
+/// `fn x. fn a. x x ((fn y. y) a)`
 fn half_of_growing(alloc: Global) -> Result<Pure, NoMemory>
     ensures { IfOk result (λ t. IsClosed pure_terms t) }
 {
-    let head = ap(alloc, Pure::var(alloc, 1)?, Pure::var(alloc, 1)?)?;
-    let step = function(alloc, Pure::var(alloc, 0)?)?;
-    let arg = ap(alloc, step, Pure::var(alloc, 0)?)?;
-    function(alloc, function(alloc, ap(alloc, head, arg)?)?)
+    let head = variables(alloc, 1, 1)?;
+    function_of_two(alloc, ap(alloc, head, identity_on_variable(alloc)?)?)
+}
+
+/// `(fn y. y) a`, where a is the variable 0.
+fn identity_on_variable(alloc: Global) -> Result<Pure, NoMemory>
+    ensures { IfOk result (λ t. t ≡ forms.ap (forms.fn (var 0)) (var 0)) }
+{
+    let identity = function(alloc, Pure::var(alloc, 0)?)?;
+    on_variable(alloc, identity, 0)
 }
 
 /// The name of the first item, applied to the identity.
@@ -158,58 +250,4 @@ fn applied_name(alloc: Global) -> Result<Pure, NoMemory>
     ensures { IfOk result (λ t. IsClosed pure_terms t) }
 {
     ap(alloc, Pure::name(alloc, 0)?, identity(alloc)?)
-}
-
-/// The two sides of the row, where it is one of pure terms.
-pub(crate) fn pure_row(alloc: Global, row: &str, size: u32) -> Result<Option<Pair>, NoMemory>
-    ensures { IfOk result (λ o. IfSome o (λ p. IsClosed pure_terms p.0 × IsClosed pure_terms p.1)) }
-{
-    if row.starts_with("eta") {
-        return eta_row(alloc, row, size);
-    }
-    if row.starts_with("name") {
-        return name_row(alloc, row);
-    }
-    match row {
-        "never_reached" => Ok(Some((first_of_two(alloc)?, identity(alloc)?))),
-        "omega" => Ok(Some((omega(alloc)?, omega(alloc)?))),
-        "variables" => Ok(Some((one_of_two(alloc, 1)?, one_of_two(alloc, 0)?))),
-        "more_arguments" => Ok(Some((applied_under_two(alloc, 1, 0)?, one_of_two(alloc, 1)?))),
-        "second_argument" => Ok(Some((two_arguments(alloc, 0, 1)?, two_arguments(alloc, 0, 0)?))),
-        "spine" => Ok(Some((applied_often(alloc, size)?, applied_often(alloc, size)?))),
-        _ => Ok(None),
-    }
-}
-
-/// The rows in which a function stands against what is none.
-fn eta_row(alloc: Global, row: &str, size: u32) -> Result<Option<Pair>, NoMemory>
-    ensures { IfOk result (λ o. IfSome o (λ p. IsClosed pure_terms p.0 × IsClosed pure_terms p.1)) }
-{
-    match row {
-        "eta_left" => Ok(Some((applied_under_two(alloc, 1, 0)?, identity(alloc)?))),
-        "eta_right" => Ok(Some((identity(alloc)?, applied_under_two(alloc, 1, 0)?))),
-        "eta_free_left" => Ok(Some((applied_under_two(alloc, 0, 0)?, identity(alloc)?))),
-        "eta_free_right" => Ok(Some((identity(alloc)?, applied_under_two(alloc, 0, 0)?))),
-        "eta_spine_left" => Ok(Some((
-            applied_once_more(alloc, size)?,
-            applied_often(alloc, size)?,
-        ))),
-        "eta_spine_right" => Ok(Some((
-            applied_often(alloc, size)?,
-            applied_once_more(alloc, size)?,
-        ))),
-        _ => Ok(None),
-    }
-}
-
-/// The rows of names.
-fn name_row(alloc: Global, row: &str) -> Result<Option<Pair>, NoMemory>
-    ensures { IfOk result (λ o. IfSome o (λ p. IsClosed pure_terms p.0 × IsClosed pure_terms p.1)) }
-{
-    match row {
-        "name" => Ok(Some((Pure::name(alloc, 0)?, Pure::name(alloc, 0)?))),
-        "name_other" => Ok(Some((Pure::name(alloc, 0)?, Pure::name(alloc, 1)?))),
-        "name_applied" => Ok(Some((applied_name(alloc)?, applied_name(alloc)?))),
-        _ => Ok(None),
-    }
 }
