@@ -6,30 +6,57 @@ use std::test::Fail;
 
 const IDENTITY: &str = "core 1\n(def id (allt X * (pi x X X)) (xlam X * (lam x X x)))\n";
 
-/// The end of the call with the words of this line, which single spaces part, and the report that was put, as text.
-fn run<F: Folder>(
-    alloc: Global,
-    line: &str,
-    folder: &mut F,
-    fail_puts: Vec<u32>,
-) -> Result<(Exit, String), Fail> {
+/// The words of this line, which single spaces part.
+fn words_of(alloc: Global, line: &str) -> Result<Vec<String>, Fail> {
     let mut words = Vec::new(alloc);
     for word in line.split(' ') {
         words.push(String::from_str(alloc, word)?)?;
     }
-    let mut out = MemorySink::new(alloc, fail_puts, 4096)?;
-    let exit = cdle_run(alloc, &words, folder, &mut out);
-    let report = String::from_utf8_lossy(alloc, out.bytes())?;
-    Ok((exit, report))
+    Ok(words)
 }
 
-/// The status and the report of the line over one file, `a.core`, as one text.
+/// The end of the call with the words of this line.
+fn end<F: Folder>(
+    alloc: Global,
+    line: &str,
+    folder: &mut F,
+    out: &mut MemorySink,
+) -> Result<Exit, Fail> {
+    let words = words_of(alloc, line)?;
+    Ok(cdle_run(alloc, &words, folder, out))
+}
+
+/// Its status.
+fn status<F: Folder>(
+    alloc: Global,
+    line: &str,
+    folder: &mut F,
+    out: &mut MemorySink,
+) -> Result<u8, Fail> {
+    let exit = end(alloc, line, folder, out)?;
+    let status = exit.status;
+    drop(exit);
+    Ok(status)
+}
+
+/// Its status, and the report that was put, as one text.
+fn run<F: Folder>(alloc: Global, line: &str, folder: &mut F) -> Result<String, Fail> {
+    let mut out = MemorySink::new(alloc, Vec::new(alloc), 4096)?;
+    let status = status(alloc, line, folder, &mut out)?;
+    put(alloc, status, &out)
+}
+
+/// The status and what went out, as one text.
+fn put(alloc: Global, status: u8, out: &MemorySink) -> Result<String, Fail> {
+    let report = String::from_utf8_lossy(alloc, out.bytes())?;
+    Ok(format!(in alloc; "{status} {report}")?)
+}
+
+/// The same of the line over one file, `a.core`.
 fn answer(alloc: Global, line: &str, text: &[u8]) -> Result<String, Fail> {
     let mut folder = SureFolder::new(alloc);
     folder.add("a.core", text)?;
-    let (exit, report) = run(alloc, line, &mut folder, Vec::new(alloc))?;
-    let status = exit.status;
-    Ok(format!(in alloc; "{status} {report}")?)
+    run(alloc, line, &mut folder)
 }
 
 /// The same of `core a.core`, where the file is this behind its first line.
@@ -117,6 +144,12 @@ fn refused_items(rt: HostRuntime) -> Result<(), Fail> {
     Ok(())
 }
 
+/// The file of this text is malformed so.
+fn is_malformed(alloc: Global, text: &[u8], wanted: &str) -> Result<bool, Fail> {
+    let wanted = format!(in alloc; "1 a.core:{wanted}\n")?;
+    Ok(answer(alloc, "core a.core", text)?.as_str() == wanted.as_str())
+}
+
 #[test]
 fn malformed_texts(rt: HostRuntime) -> Result<(), Fail> {
     let alloc = rt.alloc();
@@ -168,11 +201,7 @@ fn malformed_texts(rt: HostRuntime) -> Result<(), Fail> {
         (b"cor\n\xff", "2:1: malformed: not UTF-8"),
     ];
     for (text, wanted) in rows.iter() {
-        let wanted = format!(in alloc; "1 a.core:{wanted}\n")?;
-        assert_eq!(rt;
-            answer(alloc, "core a.core", text)?.as_str(),
-            wanted.as_str()
-        );
+        assert!(rt; is_malformed(alloc, text, wanted)?, "of {wanted}");
     }
     Ok(())
 }
@@ -185,42 +214,54 @@ fn nested(alloc: Global, copies: usize, parts: [&str; 3]) -> Result<String, Fail
     Ok(format!(in alloc; "{before}{middle}{after}")?)
 }
 
+/// The answer of a text of so many bytes, spaces behind its first line.
+fn answer_of_bytes(alloc: Global, bytes: usize) -> Result<String, Fail> {
+    let mut text = Vec::from_slice(alloc, b"core 1")?;
+    text.resize(bytes, b' ')?;
+    answer(alloc, "core a.core", &text)
+}
+
+/// The answer of an item that opens so many parentheses in its own.
+fn answer_of_nested(alloc: Global, deep: usize) -> Result<String, Fail> {
+    let kind = nested(alloc, deep, ["(kpit X * ", "*", ")"])?;
+    let item = format!(in alloc; "(type t {kind} (allt Y * Y))")?;
+    answer_of(alloc, &item)
+}
+
+/// So many items, and the text behind them.
+fn answer_of_items(alloc: Global, count: u32, more: &str) -> Result<String, Fail> {
+    let mut items = String::new(alloc);
+    for number in 0..count {
+        items.push_str(&format!(in alloc; "(type t{number} * (allt X * X))\n")?)?;
+    }
+    items.push_str(more)?;
+    answer_of(alloc, &items)
+}
+
 #[test]
 fn limits(rt: HostRuntime) -> Result<(), Fail> {
     let alloc = rt.alloc();
-    let mut text = Vec::from_slice(alloc, b"core 1")?;
-    text.resize(1_048_576, b' ')?;
-    assert_eq!(rt;
-        answer(alloc, "core a.core", &text)?.as_str(),
-        "0 accepted 0\n"
-    );
-    text.push(b' ')?;
-    assert_eq!(rt;
-        answer(alloc, "core a.core", &text)?.as_str(),
-        "9 limit a.core: bytes\n"
-    );
-
-    // The item's own parenthesis, and so many in it.
+    let rows = [
+        (1_048_576, "0 accepted 0\n"),
+        (1_048_577, "9 limit a.core: bytes\n"),
+    ];
+    for (bytes, wanted) in rows.iter() {
+        assert_eq!(rt; answer_of_bytes(alloc, *bytes)?.as_str(), *wanted);
+    }
     let rows = [
         (1023, "3 refused t at 2: wrong kind\n"),
         (1024, "9 limit a.core: nesting\n"),
     ];
     for (deep, wanted) in rows.iter() {
-        let kind = nested(alloc, *deep, ["(kpit X * ", "*", ")"])?;
-        let item = format!(in alloc; "(type t {kind} (allt Y * Y))")?;
-        assert_eq!(rt; answer_of(alloc, &item)?.as_str(), *wanted);
+        assert_eq!(rt; answer_of_nested(alloc, *deep)?.as_str(), *wanted);
     }
-
-    let mut items = String::new(alloc);
-    for number in 0..10_000u32 {
-        items.push_str(&format!(in alloc; "(type t{number} * (allt X * X))\n")?)?;
+    let rows = [
+        ("", "0 accepted 10000\n"),
+        ("(type t * (allt X * X))", "9 limit a.core: items\n"),
+    ];
+    for (more, wanted) in rows.iter() {
+        assert_eq!(rt; answer_of_items(alloc, 10_000, more)?.as_str(), *wanted);
     }
-    assert_eq!(rt; answer_of(alloc, &items)?.as_str(), "0 accepted 10000\n");
-    items.push_str("(type t * (allt X * X))")?;
-    assert_eq!(rt;
-        answer_of(alloc, &items)?.as_str(),
-        "9 limit a.core: items\n"
-    );
     Ok(())
 }
 
@@ -264,6 +305,20 @@ fn budgets(rt: HostRuntime) -> Result<(), Fail> {
     Ok(())
 }
 
+/// Whether no words are no command.
+fn is_usage_without_words(alloc: Global) -> Result<bool, Fail> {
+    let mut out = MemorySink::new(alloc, Vec::new(alloc), 4096)?;
+    let exit = cdle_run(
+        alloc,
+        &Vec::new(alloc),
+        &mut SureFolder::new(alloc),
+        &mut out,
+    );
+    let is_usage = matches!(&exit.outcome, Outcome::Usage);
+    drop(exit);
+    Ok(is_usage)
+}
+
 #[test]
 fn words(rt: HostRuntime) -> Result<(), Fail> {
     let alloc = rt.alloc();
@@ -304,14 +359,7 @@ fn words(rt: HostRuntime) -> Result<(), Fail> {
             "of {line}"
         );
     }
-    let mut out = MemorySink::new(alloc, Vec::new(alloc), 4096)?;
-    let exit = cdle_run(
-        alloc,
-        &Vec::new(alloc),
-        &mut SureFolder::new(alloc),
-        &mut out,
-    );
-    assert!(rt; matches!(exit.outcome, Outcome::Usage));
+    assert!(rt; is_usage_without_words(alloc)?);
     Ok(())
 }
 
@@ -324,26 +372,23 @@ fn several_files(rt: HostRuntime) -> Result<(), Fail> {
     folder.add("cut.core", b"core 1\n(def")?;
     folder.add("-x", IDENTITY.as_bytes())?;
     let rows = [
-        ("core p.core q.core", 0, "accepted 2\n"),
-        (
-            "core q.core p.core",
-            1,
-            "q.core:2:8: malformed: unbound T\n",
-        ),
-        ("core p.core p.core", 3, "refused T: duplicate\n"),
-        ("core p.core -- -x q.core", 0, "accepted 3\n"),
+        ("core p.core q.core", "0 accepted 2\n"),
+        ("core q.core p.core", "1 q.core:2:8: malformed: unbound T\n"),
+        ("core p.core p.core", "3 refused T: duplicate\n"),
+        ("core p.core -- -x q.core", "0 accepted 3\n"),
         (
             "core cut.core none",
-            1,
-            "cut.core:2:5: malformed: wanted name\n",
+            "1 cut.core:2:5: malformed: wanted name\n",
         ),
-        ("core none cut.core", 10, "missing none\n"),
-        ("core p.core p.core none", 10, "missing none\n"),
+        ("core none cut.core", "10 missing none\n"),
+        ("core p.core p.core none", "10 missing none\n"),
     ];
-    for (line, status, wanted) in rows.iter() {
-        let (exit, report) = run(alloc, line, &mut folder, Vec::new(alloc))?;
-        assert_eq!(rt; report.as_str(), *wanted, "of {line}");
-        assert_eq!(rt; exit.status, *status, "of {line}");
+    for (line, wanted) in rows.iter() {
+        assert_eq!(rt;
+            run(alloc, line, &mut folder)?.as_str(),
+            *wanted,
+            "of {line}"
+        );
     }
     Ok(())
 }
@@ -360,9 +405,7 @@ fn answer_where_fails(alloc: Global, call: u32) -> Result<String, Fail> {
     let mut folder = MemoryFolder::new(alloc, only(alloc, call)?);
     folder.add("a.core", IDENTITY.as_bytes())?;
     folder.add("b.core", IDENTITY.as_bytes())?;
-    let (exit, report) = run(alloc, "core a.core b.core", &mut folder, Vec::new(alloc))?;
-    let status = exit.status;
-    Ok(format!(in alloc; "{status} {report}")?)
+    run(alloc, "core a.core b.core", &mut folder)
 }
 
 #[test]
@@ -379,29 +422,52 @@ fn failing_reads(rt: HostRuntime) -> Result<(), Fail> {
     Ok(())
 }
 
-/// The end of `core a.core` over the identity, where this put fails, and what went out.
-fn identity_where_fails(alloc: Global, put: u32) -> Result<(Exit, String), Fail> {
+/// The end of `core a.core` over the identity.
+fn identity(alloc: Global, out: &mut MemorySink) -> Result<Exit, Fail> {
     let mut folder = SureFolder::new(alloc);
     folder.add("a.core", IDENTITY.as_bytes())?;
-    run(alloc, "core a.core", &mut folder, only(alloc, put)?)
+    end(alloc, "core a.core", &mut folder, out)
+}
+
+/// Its status where this put fails, and what went out, as one text.
+fn identity_where_fails(alloc: Global, call: u32) -> Result<String, Fail> {
+    let mut out = MemorySink::new(alloc, only(alloc, call)?, 4096)?;
+    let exit = identity(alloc, &mut out)?;
+    let status = exit.status;
+    drop(exit);
+    put(alloc, status, &out)
+}
+
+/// Whether this put's failing is answered as such, and nothing else.
+fn is_write_fault(alloc: Global, call: u32) -> Result<bool, Fail> {
+    let mut out = MemorySink::new(alloc, only(alloc, call)?, 4096)?;
+    let exit = identity(alloc, &mut out)?;
+    let is_fault = matches!(&exit.outcome, Outcome::WriteFault { file: None });
+    drop(exit);
+    Ok(is_fault)
+}
+
+/// Whether one item is accepted where this put fails.
+fn is_one_accepted(alloc: Global, call: u32) -> Result<bool, Fail> {
+    let mut out = MemorySink::new(alloc, only(alloc, call)?, 4096)?;
+    let exit = identity(alloc, &mut out)?;
+    let is_one = matches!(
+        &exit.outcome,
+        Outcome::Ok {
+            modules: 0,
+            items: 1
+        }
+    );
+    drop(exit);
+    Ok(is_one)
 }
 
 #[test]
 fn failing_puts(rt: HostRuntime) -> Result<(), Fail> {
     let alloc = rt.alloc();
-    let (exit, report) = identity_where_fails(alloc, 0)?;
-    assert!(rt; report.is_empty() && exit.status == 6);
-    assert!(rt; matches!(&exit.outcome, Outcome::WriteFault { file: None }));
-    let (exit, report) = identity_where_fails(alloc, 1)?;
-    assert!(rt; report.as_str() == "accepted 1\n" && exit.status == 0);
-    assert!(rt;
-        matches!(
-            &exit.outcome,
-            Outcome::Ok {
-                modules: 0,
-                items: 1
-            }
-        )
-    );
+    assert_eq!(rt; identity_where_fails(alloc, 0)?.as_str(), "6 ");
+    assert!(rt; is_write_fault(alloc, 0)?);
+    assert_eq!(rt; identity_where_fails(alloc, 1)?.as_str(), "0 accepted 1\n");
+    assert!(rt; is_one_accepted(alloc, 1)?);
     Ok(())
 }
