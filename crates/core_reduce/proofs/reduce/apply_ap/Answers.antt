@@ -1,7 +1,6 @@
 use Rattle.std.proofs.Common.{◌++◌, ◌∷◌, [], ◌∙◌, ap, sym, subst, refl}
 use Rattle.cdle_model.specs.Trees.{of_pure}
 use Rattle.cdle_model.specs.Forms.{fn}
-use Rattle.core_reduce.specs.declared.root.Arg.TheVariants.{Ap}
 use Rattle.core_reduce.specs.declared.side.SideClass.TheVariants.{OfPure}
 use Rattle.core_reduce.specs.Heads.{MeetsStep}
 use Rattle.core_reduce.proofs.Placing.{ap_used, ap_only, moving_applied}

@@ -1,7 +1,6 @@
 use Rattle.std.proofs.Common.{◌++◌, ◌∷◌, [], ◌∙◌, ap, sym, subst, refl}
 use Rattle.cdle_model.specs.Trees.{of_term}
 use Rattle.cdle_model.specs.Forms.{guide_tlam}
-use Rattle.core_reduce.specs.declared.root.Arg.TheVariants.{At}
 use Rattle.core_reduce.specs.declared.side.SideClass.TheVariants.{OfType}
 use Rattle.core_reduce.specs.Heads.{MeetsStep}
 use Rattle.core_reduce.proofs.Placing.{at_used, no_at, moving_function, moving_applied}

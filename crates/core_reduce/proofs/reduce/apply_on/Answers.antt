@@ -1,7 +1,6 @@
 use Rattle.std.proofs.Common.{◌++◌, ◌∷◌, [], ◌∙◌, ap, sym, subst, refl}
 use Rattle.cdle_model.specs.Trees.{of_type}
 use Rattle.cdle_model.specs.Forms.{guide_xtlam}
-use Rattle.core_reduce.specs.declared.root.Arg.TheVariants.{On}
 use Rattle.core_reduce.specs.declared.side.SideClass.TheVariants.{OfType}
 use Rattle.core_reduce.specs.Heads.{MeetsStep}
 use Rattle.core_reduce.proofs.Placing.{on_used, no_on, moving_function, moving_applied}

@@ -1,4 +1,4 @@
-use Rattle.std.proofs.Common.{◌∷◌, [], ◌++◌, sym, subst, refl, Ok}
+use Rattle.std.proofs.Common.{sym, subst, refl, Ok}
 use Rattle.cdle_model.specs.Trees.{apply}
 use Rattle.core_reduce.specs.Sides.{root_class, root_tree, arg_function, arg_tree}
 use Rattle.core_reduce.specs.Heads.{MeetsStep}

@@ -1,4 +1,4 @@
-use Rattle.std.proofs.Common.{◌∷◌, [], ◌++◌, sym, subst, refl, Ok}
+use Rattle.std.proofs.Common.{sym, subst, refl, Ok}
 use Rattle.cdle_model.specs.Trees.{of_type}
 use Rattle.cdle_model.specs.Forms.{on}
 use Rattle.core_reduce.specs.declared.root.Root.TheVariants as r
