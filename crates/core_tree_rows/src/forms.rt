@@ -1,4 +1,6 @@
 //! One tree of each form.
+ghost use Rattle.std.specs.Prelude.{◌≡◌};
+ghost use Rattle.cdle_model.specs.Depth.{depth};
 
 use core_tree::{
     Guide, GuideForm, GuideKind, GuideKindForm, Kind, KindForm, NoMemory, Pure, PureForm, Term,
@@ -6,14 +8,38 @@ use core_tree::{
 };
 use std::alloc::Global;
 
+/// A leaf of each class.
+#[derive(Drop)]
+pub(crate) struct Leaves {
+    pure: Pure,
+    guide: Guide,
+    guide_kind: GuideKind,
+    term: Term,
+    ty: Ty,
+    kind: Kind,
+    ghost leaves: { (depth pure ≡ 0) × (depth guide ≡ 0) × (depth guide_kind ≡ 0) × (depth term ≡ 0) × (depth ty ≡ 0) × (depth kind ≡ 0) },
+}
+
+impl Leaves {
+    pub(crate) fn new(alloc: Global) -> Result<Leaves, NoMemory> {
+        Ok(Leaves {
+            pure: Pure::var(alloc, 7)?,
+            guide: Guide::var(alloc, 7)?,
+            guide_kind: GuideKind::star(alloc)?,
+            term: Term::var(alloc, 7)?,
+            ty: Ty::var(alloc, 7)?,
+            kind: Kind::star(alloc)?,
+        })
+    }
+}
+
 /// The tree of that form over leaves.
-pub(crate) fn pure_of(alloc: Global, form: u32) -> Result<Pure, NoMemory> {
-    let pure = Pure::var(alloc, 7)?;
+pub(crate) fn pure_of(alloc: Global, leaves: &Leaves, form: u32) -> Result<Pure, NoMemory> {
     match form {
         0 => Pure::var(alloc, 7),
         1 => Pure::name(alloc, 3),
-        2 => Pure::function(alloc, &pure),
-        _ => Pure::ap(alloc, &pure, &pure),
+        2 => Pure::function(alloc, &leaves.pure),
+        _ => Pure::ap(alloc, &leaves.pure, &leaves.pure),
     }
 }
 
@@ -28,22 +54,19 @@ pub(crate) fn pure_form(tree: &Pure) -> u32 {
 }
 
 /// The tree of that form over leaves.
-pub(crate) fn guide_of(alloc: Global, form: u32) -> Result<Guide, NoMemory> {
-    let guide = Guide::var(alloc, 7)?;
-    let guide_kind = GuideKind::star(alloc)?;
-    let pure = Pure::var(alloc, 7)?;
+pub(crate) fn guide_of(alloc: Global, leaves: &Leaves, form: u32) -> Result<Guide, NoMemory> {
     match form {
         0 => Guide::var(alloc, 7),
         1 => Guide::name(alloc, 3),
-        2 => Guide::pi(alloc, &guide, &guide),
-        3 => Guide::all(alloc, &guide, &guide),
-        4 => Guide::allt(alloc, &guide_kind, &guide),
-        5 => Guide::tlam(alloc, &guide),
-        6 => Guide::xtlam(alloc, &guide),
-        7 => Guide::at(alloc, &guide, &pure),
-        8 => Guide::on(alloc, &guide, &guide),
-        9 => Guide::iota(alloc, &guide, &guide),
-        _ => Guide::eq(alloc, &pure, &pure),
+        2 => Guide::pi(alloc, &leaves.guide, &leaves.guide),
+        3 => Guide::all(alloc, &leaves.guide, &leaves.guide),
+        4 => Guide::allt(alloc, &leaves.guide_kind, &leaves.guide),
+        5 => Guide::tlam(alloc, &leaves.guide),
+        6 => Guide::xtlam(alloc, &leaves.guide),
+        7 => Guide::at(alloc, &leaves.guide, &leaves.pure),
+        8 => Guide::on(alloc, &leaves.guide, &leaves.guide),
+        9 => Guide::iota(alloc, &leaves.guide, &leaves.guide),
+        _ => Guide::eq(alloc, &leaves.pure, &leaves.pure),
     }
 }
 
@@ -65,13 +88,15 @@ pub(crate) fn guide_form(tree: &Guide) -> u32 {
 }
 
 /// The tree of that form over leaves.
-pub(crate) fn guide_kind_of(alloc: Global, form: u32) -> Result<GuideKind, NoMemory> {
-    let guide = Guide::var(alloc, 7)?;
-    let guide_kind = GuideKind::star(alloc)?;
+pub(crate) fn guide_kind_of(
+    alloc: Global,
+    leaves: &Leaves,
+    form: u32,
+) -> Result<GuideKind, NoMemory> {
     match form {
         0 => GuideKind::star(alloc),
-        1 => GuideKind::kpi(alloc, &guide, &guide_kind),
-        _ => GuideKind::kpit(alloc, &guide_kind, &guide_kind),
+        1 => GuideKind::kpi(alloc, &leaves.guide, &leaves.guide_kind),
+        _ => GuideKind::kpit(alloc, &leaves.guide_kind, &leaves.guide_kind),
     }
 }
 
@@ -85,28 +110,23 @@ pub(crate) fn guide_kind_form(tree: &GuideKind) -> u32 {
 }
 
 /// The tree of that form over leaves.
-pub(crate) fn term_of(alloc: Global, form: u32) -> Result<Term, NoMemory> {
-    let ty = Ty::var(alloc, 7)?;
-    let term = Term::var(alloc, 7)?;
-    let kind = Kind::star(alloc)?;
-    let pure = Pure::var(alloc, 7)?;
-    let guide = Guide::var(alloc, 7)?;
+pub(crate) fn term_of(alloc: Global, leaves: &Leaves, form: u32) -> Result<Term, NoMemory> {
     match form {
         0 => Term::var(alloc, 7),
         1 => Term::name(alloc, 3),
-        2 => Term::lam(alloc, &ty, &term),
-        3 => Term::elam(alloc, &ty, &term),
-        4 => Term::xlam(alloc, &kind, &term),
-        5 => Term::app(alloc, &term, &term),
-        6 => Term::eapp(alloc, &term, &term),
-        7 => Term::tapp(alloc, &term, &ty),
-        8 => Term::pair(alloc, &term, &term, &ty),
-        9 => Term::fst(alloc, &term),
-        10 => Term::snd(alloc, &term),
-        11 => Term::beta(alloc, &pure, &pure),
-        12 => Term::rho(alloc, &term, &guide, &ty, &term),
-        13 => Term::phi(alloc, &term, &term, &pure),
-        _ => Term::delta(alloc, &ty, &term),
+        2 => Term::lam(alloc, &leaves.ty, &leaves.term),
+        3 => Term::elam(alloc, &leaves.ty, &leaves.term),
+        4 => Term::xlam(alloc, &leaves.kind, &leaves.term),
+        5 => Term::app(alloc, &leaves.term, &leaves.term),
+        6 => Term::eapp(alloc, &leaves.term, &leaves.term),
+        7 => Term::tapp(alloc, &leaves.term, &leaves.ty),
+        8 => Term::pair(alloc, &leaves.term, &leaves.term, &leaves.ty),
+        9 => Term::fst(alloc, &leaves.term),
+        10 => Term::snd(alloc, &leaves.term),
+        11 => Term::beta(alloc, &leaves.pure, &leaves.pure),
+        12 => Term::rho(alloc, &leaves.term, &leaves.guide, &leaves.ty, &leaves.term),
+        13 => Term::phi(alloc, &leaves.term, &leaves.term, &leaves.pure),
+        _ => Term::delta(alloc, &leaves.ty, &leaves.term),
     }
 }
 
@@ -132,23 +152,19 @@ pub(crate) fn term_form(tree: &Term) -> u32 {
 }
 
 /// The tree of that form over leaves.
-pub(crate) fn ty_of(alloc: Global, form: u32) -> Result<Ty, NoMemory> {
-    let ty = Ty::var(alloc, 7)?;
-    let kind = Kind::star(alloc)?;
-    let term = Term::var(alloc, 7)?;
-    let pure = Pure::var(alloc, 7)?;
+pub(crate) fn ty_of(alloc: Global, leaves: &Leaves, form: u32) -> Result<Ty, NoMemory> {
     match form {
         0 => Ty::var(alloc, 7),
         1 => Ty::name(alloc, 3),
-        2 => Ty::pi(alloc, &ty, &ty),
-        3 => Ty::all(alloc, &ty, &ty),
-        4 => Ty::allt(alloc, &kind, &ty),
-        5 => Ty::tlam(alloc, &ty, &ty),
-        6 => Ty::xtlam(alloc, &kind, &ty),
-        7 => Ty::at(alloc, &ty, &term),
-        8 => Ty::on(alloc, &ty, &ty),
-        9 => Ty::iota(alloc, &ty, &ty),
-        _ => Ty::eq(alloc, &pure, &pure),
+        2 => Ty::pi(alloc, &leaves.ty, &leaves.ty),
+        3 => Ty::all(alloc, &leaves.ty, &leaves.ty),
+        4 => Ty::allt(alloc, &leaves.kind, &leaves.ty),
+        5 => Ty::tlam(alloc, &leaves.ty, &leaves.ty),
+        6 => Ty::xtlam(alloc, &leaves.kind, &leaves.ty),
+        7 => Ty::at(alloc, &leaves.ty, &leaves.term),
+        8 => Ty::on(alloc, &leaves.ty, &leaves.ty),
+        9 => Ty::iota(alloc, &leaves.ty, &leaves.ty),
+        _ => Ty::eq(alloc, &leaves.pure, &leaves.pure),
     }
 }
 
@@ -170,13 +186,11 @@ pub(crate) fn ty_form(tree: &Ty) -> u32 {
 }
 
 /// The tree of that form over leaves.
-pub(crate) fn kind_of(alloc: Global, form: u32) -> Result<Kind, NoMemory> {
-    let ty = Ty::var(alloc, 7)?;
-    let kind = Kind::star(alloc)?;
+pub(crate) fn kind_of(alloc: Global, leaves: &Leaves, form: u32) -> Result<Kind, NoMemory> {
     match form {
         0 => Kind::star(alloc),
-        1 => Kind::kpi(alloc, &ty, &kind),
-        _ => Kind::kpit(alloc, &kind, &kind),
+        1 => Kind::kpi(alloc, &leaves.ty, &leaves.kind),
+        _ => Kind::kpit(alloc, &leaves.kind, &leaves.kind),
     }
 }
 

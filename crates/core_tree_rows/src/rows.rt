@@ -139,27 +139,35 @@ fn guide_kind_changes(alloc: Global) -> Result<bool, PutStop> {
     Ok(matches!(put.form(), GuideKindForm::Star))
 }
 
-/// What is left of a type and of a kind over it, and the item that defines the type, copied.
-fn written_changes(alloc: Global) -> Result<bool, NoMemory> {
+/// What is left of a type and of a kind over it.
+fn written_erasures(alloc: Global) -> Result<bool, NoMemory> {
     let ty = Ty::var(alloc, 2)?;
     let star = Kind::star(alloc)?;
     let kind = Kind::kpi(alloc, &ty, &star)?;
     let guide = ty.erase(alloc)?;
     let guide_kind = kind.erase(alloc)?;
+    Ok(
+        matches!(guide.form(), GuideForm::Var(2))
+            && matches!(guide_kind.form(), GuideKindForm::Kpi(_, _)),
+    )
+}
+
+/// The item that defines a type under a kind over it.
+fn type_item(alloc: Global) -> Result<CoreItem, NoMemory> {
+    let body = Ty::var(alloc, 2)?;
+    let star = Kind::star(alloc)?;
+    let kind = Kind::kpi(alloc, &body, &star)?;
     let Ok(name) = Text::new(alloc, "x") else {
         return Err(NoMemory);
     };
-    let item = CoreItem::TypeDef {
-        name,
-        kind,
-        body: ty,
-    };
+    Ok(CoreItem::TypeDef { name, kind, body })
+}
+
+/// Whether a copy of the item has its name.
+fn item_copy(alloc: Global) -> Result<bool, NoMemory> {
+    let item = type_item(alloc)?;
     let copy = item.copy(alloc)?;
-    Ok(
-        matches!(guide.form(), GuideForm::Var(2))
-            && matches!(guide_kind.form(), GuideKindForm::Kpi(_, _))
-            && copy.name().as_str() == "x",
-    )
+    Ok(copy.name().as_str() == "x")
 }
 
 #[cfg(test)]
@@ -169,8 +177,9 @@ mod tests {
 
     #[test]
     fn pure_forms(rt: HostRuntime) {
+        let leaves = Leaves::new(rt.alloc()).expect(&rt, "memory");
         for form in 0..4u32 {
-            let tree = pure_of(rt.alloc(), form).expect(&rt, "memory");
+            let tree = pure_of(rt.alloc(), &leaves, form).expect(&rt, "memory");
             assert_eq!(rt; pure_form(&tree), form);
             assert_eq!(rt; tree.depth(), if form < 2 { 0 } else { 1 });
         }
@@ -178,8 +187,9 @@ mod tests {
 
     #[test]
     fn guide_forms(rt: HostRuntime) {
+        let leaves = Leaves::new(rt.alloc()).expect(&rt, "memory");
         for form in 0..11u32 {
-            let tree = guide_of(rt.alloc(), form).expect(&rt, "memory");
+            let tree = guide_of(rt.alloc(), &leaves, form).expect(&rt, "memory");
             assert_eq!(rt; guide_form(&tree), form);
             assert_eq!(rt; tree.depth(), if form < 2 { 0 } else { 1 });
         }
@@ -187,8 +197,9 @@ mod tests {
 
     #[test]
     fn guide_kind_forms(rt: HostRuntime) {
+        let leaves = Leaves::new(rt.alloc()).expect(&rt, "memory");
         for form in 0..3u32 {
-            let tree = guide_kind_of(rt.alloc(), form).expect(&rt, "memory");
+            let tree = guide_kind_of(rt.alloc(), &leaves, form).expect(&rt, "memory");
             assert_eq!(rt; guide_kind_form(&tree), form);
             assert_eq!(rt; tree.depth(), if form < 1 { 0 } else { 1 });
         }
@@ -196,8 +207,9 @@ mod tests {
 
     #[test]
     fn term_forms(rt: HostRuntime) {
+        let leaves = Leaves::new(rt.alloc()).expect(&rt, "memory");
         for form in 0..15u32 {
-            let tree = term_of(rt.alloc(), form).expect(&rt, "memory");
+            let tree = term_of(rt.alloc(), &leaves, form).expect(&rt, "memory");
             assert_eq!(rt; term_form(&tree), form);
             assert_eq!(rt; tree.depth(), if form < 2 { 0 } else { 1 });
         }
@@ -205,8 +217,9 @@ mod tests {
 
     #[test]
     fn ty_forms(rt: HostRuntime) {
+        let leaves = Leaves::new(rt.alloc()).expect(&rt, "memory");
         for form in 0..11u32 {
-            let tree = ty_of(rt.alloc(), form).expect(&rt, "memory");
+            let tree = ty_of(rt.alloc(), &leaves, form).expect(&rt, "memory");
             assert_eq!(rt; ty_form(&tree), form);
             assert_eq!(rt; tree.depth(), if form < 2 { 0 } else { 1 });
         }
@@ -214,8 +227,9 @@ mod tests {
 
     #[test]
     fn kind_forms(rt: HostRuntime) {
+        let leaves = Leaves::new(rt.alloc()).expect(&rt, "memory");
         for form in 0..3u32 {
-            let tree = kind_of(rt.alloc(), form).expect(&rt, "memory");
+            let tree = kind_of(rt.alloc(), &leaves, form).expect(&rt, "memory");
             assert_eq!(rt; kind_form(&tree), form);
             assert_eq!(rt; tree.depth(), if form < 1 { 0 } else { 1 });
         }
@@ -227,7 +241,8 @@ mod tests {
         assert!(rt; is_applied_inside(&left));
         assert!(rt; matches!(guide_changes(rt.alloc()), Ok(true)));
         assert!(rt; matches!(guide_kind_changes(rt.alloc()), Ok(true)));
-        assert!(rt; matches!(written_changes(rt.alloc()), Ok(true)));
+        assert!(rt; matches!(written_erasures(rt.alloc()), Ok(true)));
+        assert!(rt; matches!(item_copy(rt.alloc()), Ok(true)));
     }
 
     #[test]
