@@ -61,7 +61,9 @@ fn head_of(alloc: Global, tree: &Pure, budget: &mut Budget) -> Result<Value, Sto
 /// Whether the value is the identity.
 fn gives_identity(alloc: Global, value: &Value) -> Result<bool, NoMemory> {
     match value {
-        Value::Fun(body) if body.class() == SideClass::OfPure => Ok(is_new(&body.tree_pure(alloc)?)),
+        Value::Fun(body) if body.class() == SideClass::OfPure => Ok(is_new(&body.tree_pure(
+            alloc,
+        )?)),
         _ => Ok(false),
     }
 }
@@ -203,7 +205,10 @@ fn every_type(alloc: Global) -> Result<Guide, NoMemory>
 fn applied_identity(alloc: Global) -> Result<bool, NoMemory> {
     let x = Pure::var(alloc, 0)?;
     let value = Value::Fun(Side::of_pure(alloc, &x)?);
-    Ok(is_function(&value.tree_pure(alloc)?) && is_applied(&value.applied(alloc)?.tree_pure(alloc)?))
+    Ok(
+        is_function(&value.tree_pure(alloc)?)
+            && is_applied(&value.applied(alloc)?.tree_pure(alloc)?),
+    )
 }
 
 fn is_function(tree: &Kept<Pure>) -> bool {
