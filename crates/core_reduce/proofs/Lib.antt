@@ -6,3 +6,4 @@ pub mod Placing
 pub mod Going
 pub mod Raising
 pub mod Variables
+pub mod Moves

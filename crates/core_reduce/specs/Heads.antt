@@ -9,6 +9,7 @@ use Rattle.core_tree.specs.declared.stop.PutStop.{PutStop}
 use Rattle.core_tree.specs.declared.stop.PutStop.TheVariants as put
 use Rattle.core_reduce.specs.declared.side.SideClass.{SideClass}
 use Rattle.core_reduce.specs.declared.root.Root.{Root}
+use Rattle.core_reduce.specs.declared.root.Root.TheVariants as r
 use Rattle.core_reduce.specs.declared.root.Arg.{Arg}
 use Rattle.core_reduce.specs.declared.value.Value.{Value}
 use Rattle.core_reduce.specs.declared.reduce.Stop.{Stop}
@@ -96,6 +97,15 @@ pub record Halts (s : List Tree) (h : Tree) (xs : List Arg) (old : ℕ) : Type 0
 abbrev pub reached : Root → Result Unit Stop → Result Root Stop
 reached h (Ok x) = Ok h
 reached h (Err e) = Err e
+
+-- the tree that is reached, as a head
+abbrev pub as_pure : Result Tree Stop → Result Root Stop
+as_pure (Ok t) = Ok (r.Pure t)
+as_pure (Err e) = Err e
+
+abbrev pub as_guide : Result Tree Stop → Result Root Stop
+as_guide (Ok t) = Ok (r.Guide t)
+as_guide (Err e) = Err e
 
 abbrev pub MeetsStep : List Tree → SideClass → Tree → List Arg → ℕ → List Arg → ℕ → Result Root Stop → Type 0
 MeetsStep s k h xs old ys new (Ok r) = (root_class r ≡ k) × (Unwound h xs old (root_tree r) ys new ⊎ Stepped s h xs old (root_tree r) ys new)

@@ -3,12 +3,14 @@ ghost use Rattle.std.specs.Prelude.{◌≡◌, ℕ, ◌++◌, ◌<◌, ◌≤◌
 ghost use Rattle.cdle_model.specs.Classes.{Fits, IsOf, UsedAs, guides, item_sorts, pure_terms, within};
 ghost use Rattle.cdle_model.specs.Derivation.{bodies, signature};
 ghost use Rattle.cdle_model.specs.Forms.{ap, at_, fn, guide_tlam, guide_xtlam, on};
-ghost use Rattle.cdle_model.specs.Trees.{IsBelow, Tree, apply, name};
+ghost use Rattle.cdle_model.specs.Trees.{IsBelow, Tree, apply, name, put};
 ghost use Rattle.cdle_model.specs.declared.grammar.Sort.{Sort};
 ghost use Rattle.cdle_model.specs.declared.grammar.Sort.TheVariants.{OfTerm, OfType as OfTypes};
-ghost use Rattle.core_reduce.specs.Heads.{HeadSo, IsStill, MeetsHead, MeetsStep, innermost, put_stop_of, reached, seen};
+ghost use Rattle.core_tree.specs.Nodes.{PutGives};
+ghost use Rattle.core_reduce.specs.Heads.{HeadSo, IsStill, MeetsHead, MeetsStep, as_guide, as_pure, innermost, put_stop_of, reached, seen};
 ghost use Rattle.core_reduce.specs.Sides.{IsPlaced, arg_function, arg_tree, class_trees, root_class, root_tree, spine};
 ghost use Rattle.core_reduce.specs.Values.{StandsFor};
+ghost use Rattle.core_reduce.specs.declared.root.Root.TheVariants as root;
 ghost use Rattle.core_reduce.specs.declared.root.Arg.{Arg};
 ghost use Rattle.core_reduce.specs.declared.root.Arg.TheVariants.{Ap, At, On};
 ghost use Rattle.core_reduce.specs.declared.side.SideClass.{SideClass};
@@ -183,7 +185,7 @@ fn value_with(alloc: Global, head: Root, args: Vec<Arg>) -> Result<Value, NoMemo
     value_of(alloc, &node, 0)
 }
 
-/// One move of a head in its place.
+/// One move of a head in its place: an argument of it is put on the list, or a contraction or an unfolding is made.
 fn advance(
     alloc: Global,
     items: &CheckedItems,
@@ -196,26 +198,9 @@ fn advance(
     ensures step { MeetsStep (bodies (signature items.now)) (root_class now.old) (root_tree now.old) args.old.items budget.old.left args.new.items budget.new.left (reached now.new result) }
     ensures less { budget.new.left ≤ budget.old.left }
 {
-    *now = step(alloc, items, now, args, budget)?;
-    Ok(())
-}
-
-/// One move of a head: an argument of it is put on the list, or a contraction or an unfolding is made.
-fn step(
-    alloc: Global,
-    items: &CheckedItems,
-    now: &Root,
-    args: &mut Vec<Arg>,
-    budget: &mut Budget,
-) -> Result<Root, Stop>
-    requires placed { IsPlaced 4250000000 (item_sorts items.now) (class_trees (root_class now.now)) (spine (root_tree now.now) args.old.items) }
-    requires moves { IsStill (root_tree now.now) (innermost args.old.items) → ⊥ }
-    ensures step { MeetsStep (bodies (signature items.now)) (root_class now.now) (root_tree now.now) args.old.items budget.old.left args.new.items budget.new.left result }
-    ensures less { budget.new.left ≤ budget.old.left }
-{
     match now {
-        Root::Pure(now) => step_pure(alloc, items, now, args, budget),
-        Root::Guide(now) => step_guide(alloc, items, now, args, budget),
+        Root::Pure(now) => advance_pure(alloc, items, now, args, budget),
+        Root::Guide(now) => advance_guide(alloc, items, now, args, budget),
         Root::Kind(now) => {
             now.known();
             unreachable!()
@@ -223,150 +208,188 @@ fn step(
     }
 }
 
-fn step_pure(
+/// The same of a pure term. Most are at their own nodes, of which the parts are shared, and not read.
+fn advance_pure(
     alloc: Global,
     items: &CheckedItems,
-    now: &PureView,
+    now: &mut PureView,
     args: &mut Vec<Arg>,
     budget: &mut Budget,
-) -> Result<Root, Stop>
-    requires placed { IsPlaced 4250000000 (item_sorts items.now) pure_terms (spine now.now args.old.items) }
-    requires moves { IsStill now.now (innermost args.old.items) → ⊥ }
-    ensures step { MeetsStep (bodies (signature items.now)) OfPure now.now args.old.items budget.old.left args.new.items budget.new.left result }
+) -> Result<(), Stop>
+    requires placed { IsPlaced 4250000000 (item_sorts items.now) pure_terms (spine now.old args.old.items) }
+    requires moves { IsStill now.old (innermost args.old.items) → ⊥ }
+    ensures step { MeetsStep (bodies (signature items.now)) OfPure now.old args.old.items budget.old.left args.new.items budget.new.left (reached (root.Pure now.new) result) }
     ensures less { budget.new.left ≤ budget.old.left }
 {
-    match now.own() {
-        Some(now) => step_pure_own(alloc, items, now, args, budget),
-        None => step_pure_read(alloc, items, now, args, budget),
-    }
-}
-
-/// The same at its own node, as most are: its parts are shared, and not read.
-fn step_pure_own(
-    alloc: Global,
-    items: &CheckedItems,
-    now: &Pure,
-    args: &mut Vec<Arg>,
-    budget: &mut Budget,
-) -> Result<Root, Stop>
-    requires placed { IsPlaced 4250000000 (item_sorts items.now) pure_terms (spine now.now args.old.items) }
-    requires moves { IsStill now.now (innermost args.old.items) → ⊥ }
-    ensures step { MeetsStep (bodies (signature items.now)) OfPure now.now args.old.items budget.old.left args.new.items budget.new.left result }
-    ensures less { budget.new.left ≤ budget.old.left }
-{
-    match now.form() {
-        PureForm::Name(item) => unfold(items, *item, budget),
-        PureForm::Function(body) => apply_ap(alloc, &PureView::of_pure(body)?, args, budget),
-        PureForm::Ap(head, arg) => unwind_ap(head, arg, args),
+    let Some(own) = now.own() else {
+        return advance_pure_read(alloc, items, now, args, budget);
+    };
+    match own.form() {
+        PureForm::Name(item) => {
+            let next = unfold(items, *item, budget);
+            move_pure(now, next)
+        }
+        PureForm::Function(body) => {
+            let next = apply_own(alloc, body, args, budget);
+            set_pure(now, next)
+        }
+        PureForm::Ap(head, arg) => {
+            let next = unwind_ap(head, arg, args);
+            set_pure(now, next)
+        }
         PureForm::Var(_) => unreachable!(),
     }
 }
 
 /// The same where it is read, which gives its parts by value.
-fn step_pure_read(
+fn advance_pure_read(
     alloc: Global,
     items: &CheckedItems,
-    now: &PureView,
+    now: &mut PureView,
     args: &mut Vec<Arg>,
     budget: &mut Budget,
-) -> Result<Root, Stop>
-    requires placed { IsPlaced 4250000000 (item_sorts items.now) pure_terms (spine now.now args.old.items) }
-    requires moves { IsStill now.now (innermost args.old.items) → ⊥ }
-    ensures step { MeetsStep (bodies (signature items.now)) OfPure now.now args.old.items budget.old.left args.new.items budget.new.left result }
+) -> Result<(), Stop>
+    requires placed { IsPlaced 4250000000 (item_sorts items.now) pure_terms (spine now.old args.old.items) }
+    requires moves { IsStill now.old (innermost args.old.items) → ⊥ }
+    ensures step { MeetsStep (bodies (signature items.now)) OfPure now.old args.old.items budget.old.left args.new.items budget.new.left (reached (root.Pure now.new) result) }
     ensures less { budget.new.left ≤ budget.old.left }
 {
     let form = now.form(alloc)?;
     match form {
-        PureViewForm::Name(item) => unfold(items, item, budget),
-        PureViewForm::Function(body) => apply_ap(alloc, &body, args, budget),
-        PureViewForm::Ap(head, arg) => unwind(Root::Pure(head), Arg::Ap(arg), args),
+        PureViewForm::Name(item) => move_pure(now, unfold(items, item, budget)),
+        PureViewForm::Function(body) => set_pure(now, apply_ap(alloc, &body, args, budget)),
+        PureViewForm::Ap(head, arg) => {
+            move_pure(now, unwind(Root::Pure(head), Arg::Ap(arg), args))
+        }
         PureViewForm::Var(_) => unreachable!(),
     }
 }
 
-fn step_guide(
+fn advance_guide(
     alloc: Global,
     items: &CheckedItems,
-    now: &GuideView,
+    now: &mut GuideView,
     args: &mut Vec<Arg>,
     budget: &mut Budget,
-) -> Result<Root, Stop>
-    requires placed { IsPlaced 4250000000 (item_sorts items.now) guides (spine now.now args.old.items) }
-    requires moves { IsStill now.now (innermost args.old.items) → ⊥ }
-    ensures step { MeetsStep (bodies (signature items.now)) OfType now.now args.old.items budget.old.left args.new.items budget.new.left result }
+) -> Result<(), Stop>
+    requires placed { IsPlaced 4250000000 (item_sorts items.now) guides (spine now.old args.old.items) }
+    requires moves { IsStill now.old (innermost args.old.items) → ⊥ }
+    ensures step { MeetsStep (bodies (signature items.now)) OfType now.old args.old.items budget.old.left args.new.items budget.new.left (reached (root.Guide now.new) result) }
     ensures less { budget.new.left ≤ budget.old.left }
 {
-    match now.own() {
-        Some(now) => step_guide_own(alloc, items, now, args, budget),
-        None => step_guide_read(alloc, items, now, args, budget),
-    }
-}
-
-fn step_guide_own(
-    alloc: Global,
-    items: &CheckedItems,
-    now: &Guide,
-    args: &mut Vec<Arg>,
-    budget: &mut Budget,
-) -> Result<Root, Stop>
-    requires placed { IsPlaced 4250000000 (item_sorts items.now) guides (spine now.now args.old.items) }
-    requires moves { IsStill now.now (innermost args.old.items) → ⊥ }
-    ensures step { MeetsStep (bodies (signature items.now)) OfType now.now args.old.items budget.old.left args.new.items budget.new.left result }
-    ensures less { budget.new.left ≤ budget.old.left }
-{
-    match now.form() {
-        GuideForm::Name(item) => unfold(items, *item, budget),
-        GuideForm::Tlam(body) => apply_at(alloc, &GuideView::of_guide(body)?, args, budget),
-        GuideForm::Xtlam(body) => apply_on(alloc, &GuideView::of_guide(body)?, args, budget),
-        GuideForm::At(head, arg) => unwind_at(head, arg, args),
-        GuideForm::On(head, arg) => unwind_on(head, arg, args),
+    let Some(own) = now.own() else {
+        return advance_guide_read(alloc, items, now, args, budget);
+    };
+    match own.form() {
+        GuideForm::Name(item) => {
+            let next = unfold(items, *item, budget);
+            move_guide(now, next)
+        }
+        GuideForm::Tlam(body) => {
+            let body = GuideView::of_guide(body)?;
+            set_guide(now, apply_at(alloc, &body, args, budget))
+        }
+        GuideForm::Xtlam(body) => {
+            let body = GuideView::of_guide(body)?;
+            set_guide(now, apply_on(alloc, &body, args, budget))
+        }
+        GuideForm::At(head, arg) => {
+            let next = unwind_at(head, arg, args);
+            set_guide(now, next)
+        }
+        GuideForm::On(head, arg) => {
+            let next = unwind_on(head, arg, args);
+            set_guide(now, next)
+        }
         _ => unreachable!(),
     }
 }
 
-fn step_guide_read(
+fn advance_guide_read(
     alloc: Global,
     items: &CheckedItems,
-    now: &GuideView,
+    now: &mut GuideView,
     args: &mut Vec<Arg>,
     budget: &mut Budget,
-) -> Result<Root, Stop>
-    requires placed { IsPlaced 4250000000 (item_sorts items.now) guides (spine now.now args.old.items) }
-    requires moves { IsStill now.now (innermost args.old.items) → ⊥ }
-    ensures step { MeetsStep (bodies (signature items.now)) OfType now.now args.old.items budget.old.left args.new.items budget.new.left result }
+) -> Result<(), Stop>
+    requires placed { IsPlaced 4250000000 (item_sorts items.now) guides (spine now.old args.old.items) }
+    requires moves { IsStill now.old (innermost args.old.items) → ⊥ }
+    ensures step { MeetsStep (bodies (signature items.now)) OfType now.old args.old.items budget.old.left args.new.items budget.new.left (reached (root.Guide now.new) result) }
     ensures less { budget.new.left ≤ budget.old.left }
 {
     let form = now.form(alloc)?;
     match form {
-        GuideViewForm::Name(item) => unfold(items, item, budget),
-        GuideViewForm::Tlam(body) => apply_at(alloc, &body, args, budget),
-        GuideViewForm::Xtlam(body) => apply_on(alloc, &body, args, budget),
-        GuideViewForm::At(head, arg) => unwind(Root::Guide(head), Arg::At(arg), args),
-        GuideViewForm::On(head, arg) => unwind(Root::Guide(head), Arg::On(arg), args),
+        GuideViewForm::Name(item) => move_guide(now, unfold(items, item, budget)),
+        GuideViewForm::Tlam(body) => set_guide(now, apply_at(alloc, &body, args, budget)),
+        GuideViewForm::Xtlam(body) => set_guide(now, apply_on(alloc, &body, args, budget)),
+        GuideViewForm::At(head, arg) => {
+            move_guide(now, unwind(Root::Guide(head), Arg::At(arg), args))
+        }
+        GuideViewForm::On(head, arg) => {
+            move_guide(now, unwind(Root::Guide(head), Arg::On(arg), args))
+        }
         _ => unreachable!(),
     }
 }
 
+/// The pure term that was reached, in the place of the head.
+fn set_pure(now: &mut PureView, next: Result<Pure, Stop>) -> Result<(), Stop>
+    ensures { reached (root.Pure now.new) result ≡ as_pure next }
+{
+    *now = PureView::built(next?);
+    Ok(())
+}
+
+fn set_guide(now: &mut GuideView, next: Result<Guide, Stop>) -> Result<(), Stop>
+    ensures { reached (root.Guide now.new) result ≡ as_guide next }
+{
+    *now = GuideView::built(next?);
+    Ok(())
+}
+
+/// The head that was reached, in the place of a pure one.
+fn move_pure(now: &mut PureView, next: Result<Root, Stop>) -> Result<(), Stop>
+    requires { IfOk next (λ r. root_class r ≡ OfPure) }
+    ensures { reached (root.Pure now.new) result ≡ next }
+{
+    let Root::Pure(next) = next? else {
+        unreachable!()
+    };
+    *now = next;
+    Ok(())
+}
+
+fn move_guide(now: &mut GuideView, next: Result<Root, Stop>) -> Result<(), Stop>
+    requires { IfOk next (λ r. root_class r ≡ OfType) }
+    ensures { reached (root.Guide now.new) result ≡ next }
+{
+    let Root::Guide(next) = next? else {
+        unreachable!()
+    };
+    *now = next;
+    Ok(())
+}
+
 /// The head of an application at its own node, of which the argument is put on the list.
-fn unwind_ap(head: &Pure, arg: &Pure, args: &mut Vec<Arg>) -> Result<Root, Stop>
-    ensures { (s : List Tree) (units : ℕ) → MeetsStep s OfPure (ap head.now arg.now) args.old.items units args.new.items units result }
+fn unwind_ap(head: &Pure, arg: &Pure, args: &mut Vec<Arg>) -> Result<Pure, Stop>
+    ensures { (s : List Tree) (units : ℕ) → MeetsStep s OfPure (ap head.now arg.now) args.old.items units args.new.items units (as_pure result) }
 {
     args.push(Arg::Ap(PureView::of_pure(arg)?))?;
-    Ok(Root::Pure(PureView::of_pure(head)?))
+    Ok(head.clone()?)
 }
 
-fn unwind_at(head: &Guide, arg: &Pure, args: &mut Vec<Arg>) -> Result<Root, Stop>
-    ensures { (s : List Tree) (units : ℕ) → MeetsStep s OfType (at_ head.now arg.now) args.old.items units args.new.items units result }
+fn unwind_at(head: &Guide, arg: &Pure, args: &mut Vec<Arg>) -> Result<Guide, Stop>
+    ensures { (s : List Tree) (units : ℕ) → MeetsStep s OfType (at_ head.now arg.now) args.old.items units args.new.items units (as_guide result) }
 {
     args.push(Arg::At(PureView::of_pure(arg)?))?;
-    Ok(Root::Guide(GuideView::of_guide(head)?))
+    Ok(head.clone()?)
 }
 
-fn unwind_on(head: &Guide, arg: &Guide, args: &mut Vec<Arg>) -> Result<Root, Stop>
-    ensures { (s : List Tree) (units : ℕ) → MeetsStep s OfType (on head.now arg.now) args.old.items units args.new.items units result }
+fn unwind_on(head: &Guide, arg: &Guide, args: &mut Vec<Arg>) -> Result<Guide, Stop>
+    ensures { (s : List Tree) (units : ℕ) → MeetsStep s OfType (on head.now arg.now) args.old.items units args.new.items units (as_guide result) }
 {
     args.push(Arg::On(GuideView::of_guide(arg)?))?;
-    Ok(Root::Guide(GuideView::of_guide(head)?))
+    Ok(head.clone()?)
 }
 
 /// The same of an application that was read.
@@ -383,10 +406,10 @@ fn apply_ap(
     body: &PureView,
     args: &mut Vec<Arg>,
     budget: &mut Budget,
-) -> Result<Root, Stop>
+) -> Result<Pure, Stop>
     requires placed { (zs : List Sort) × IsPlaced 4250000000 zs pure_terms (spine (fn body.now) args.old.items) }
     requires moves { IsStill (fn body.now) (innermost args.old.items) → ⊥ }
-    ensures step { (s : List Tree) → MeetsStep s OfPure (fn body.now) args.old.items budget.old.left args.new.items budget.new.left result }
+    ensures step { (s : List Tree) → MeetsStep s OfPure (fn body.now) args.old.items budget.old.left args.new.items budget.new.left (as_pure result) }
     ensures less { budget.new.left ≤ budget.old.left }
 {
     let Arg::Ap(arg) = pop(args) else {
@@ -395,15 +418,33 @@ fn apply_ap(
     contract_ap(alloc, body, &arg, budget)
 }
 
+/// The same of a function at its own node.
+fn apply_own(
+    alloc: Global,
+    body: &Pure,
+    args: &mut Vec<Arg>,
+    budget: &mut Budget,
+) -> Result<Pure, Stop>
+    requires placed { (zs : List Sort) × IsPlaced 4250000000 zs pure_terms (spine (fn body.now) args.old.items) }
+    requires moves { IsStill (fn body.now) (innermost args.old.items) → ⊥ }
+    ensures step { (s : List Tree) → MeetsStep s OfPure (fn body.now) args.old.items budget.old.left args.new.items budget.new.left (as_pure result) }
+    ensures less { budget.new.left ≤ budget.old.left }
+{
+    let Arg::Ap(arg) = pop(args) else {
+        unreachable!()
+    };
+    contract_own(alloc, body, &arg, budget)
+}
+
 fn apply_at(
     alloc: Global,
     body: &GuideView,
     args: &mut Vec<Arg>,
     budget: &mut Budget,
-) -> Result<Root, Stop>
+) -> Result<Guide, Stop>
     requires placed { (zs : List Sort) × IsPlaced 4250000000 zs guides (spine (guide_tlam body.now) args.old.items) }
     requires moves { IsStill (guide_tlam body.now) (innermost args.old.items) → ⊥ }
-    ensures step { (s : List Tree) → MeetsStep s OfType (guide_tlam body.now) args.old.items budget.old.left args.new.items budget.new.left result }
+    ensures step { (s : List Tree) → MeetsStep s OfType (guide_tlam body.now) args.old.items budget.old.left args.new.items budget.new.left (as_guide result) }
     ensures less { budget.new.left ≤ budget.old.left }
 {
     let Arg::At(arg) = pop(args) else {
@@ -417,10 +458,10 @@ fn apply_on(
     body: &GuideView,
     args: &mut Vec<Arg>,
     budget: &mut Budget,
-) -> Result<Root, Stop>
+) -> Result<Guide, Stop>
     requires placed { (zs : List Sort) × IsPlaced 4250000000 zs guides (spine (guide_xtlam body.now) args.old.items) }
     requires moves { IsStill (guide_xtlam body.now) (innermost args.old.items) → ⊥ }
-    ensures step { (s : List Tree) → MeetsStep s OfType (guide_xtlam body.now) args.old.items budget.old.left args.new.items budget.new.left result }
+    ensures step { (s : List Tree) → MeetsStep s OfType (guide_xtlam body.now) args.old.items budget.old.left args.new.items budget.new.left (as_guide result) }
     ensures less { budget.new.left ≤ budget.old.left }
 {
     let Arg::On(arg) = pop(args) else {
@@ -460,18 +501,50 @@ fn contract_ap(
     body: &PureView,
     arg: &PureView,
     budget: &mut Budget,
-) -> Result<Root, Stop>
+) -> Result<Pure, Stop>
     requires used { UsedAs OfTerm 0 pure_terms body.now }
     requires below { IsBelow 4290000000 arg.now }
-    ensures step { (s : List Tree) (xs : List Arg) → MeetsStep s OfPure (fn body.now) (xs ++ Ap arg.now ∷ []) budget.old.left xs budget.new.left result }
+    ensures step { (s : List Tree) (xs : List Arg) → MeetsStep s OfPure (fn body.now) (xs ++ Ap arg.now ∷ []) budget.old.left xs budget.new.left (as_pure result) }
     ensures less { budget.new.left ≤ budget.old.left }
 {
     if !budget.take() {
         return Err(Stop::Spent);
     }
     match body.put_pure(alloc, arg) {
-        Ok(tree) => Ok(Root::Pure(PureView::built(tree))),
+        Ok(tree) => Ok(tree),
         Err(stop) => Err(put_stop(stop)),
+    }
+}
+
+/// The same of a function at its own node.
+fn contract_own(
+    alloc: Global,
+    body: &Pure,
+    arg: &PureView,
+    budget: &mut Budget,
+) -> Result<Pure, Stop>
+    requires used { UsedAs OfTerm 0 pure_terms body.now }
+    requires below { IsBelow 4290000000 arg.now }
+    ensures step { (s : List Tree) (xs : List Arg) → MeetsStep s OfPure (fn body.now) (xs ++ Ap arg.now ∷ []) budget.old.left xs budget.new.left (as_pure result) }
+    ensures less { budget.new.left ≤ budget.old.left }
+{
+    if !budget.take() {
+        return Err(Stop::Spent);
+    }
+    match put_own(alloc, body, arg) {
+        Ok(tree) => Ok(tree),
+        Err(stop) => Err(put_stop(stop)),
+    }
+}
+
+fn put_own(alloc: Global, body: &Pure, arg: &PureView) -> Result<Pure, PutStop>
+    requires used { UsedAs OfTerm 0 pure_terms body.now }
+    requires below { IsBelow 4290000000 arg.now }
+    ensures { PutGives (put 0 arg.now body.now) result }
+{
+    match arg.own() {
+        Some(arg) => body.put_pure(alloc, 0, arg),
+        None => body.put_pure(alloc, 0, &arg.whole(alloc)?),
     }
 }
 
@@ -480,17 +553,17 @@ fn contract_at(
     body: &GuideView,
     arg: &PureView,
     budget: &mut Budget,
-) -> Result<Root, Stop>
+) -> Result<Guide, Stop>
     requires used { UsedAs OfTerm 0 guides body.now }
     requires below { IsBelow 4290000000 arg.now }
-    ensures step { (s : List Tree) (xs : List Arg) → MeetsStep s OfType (guide_tlam body.now) (xs ++ At arg.now ∷ []) budget.old.left xs budget.new.left result }
+    ensures step { (s : List Tree) (xs : List Arg) → MeetsStep s OfType (guide_tlam body.now) (xs ++ At arg.now ∷ []) budget.old.left xs budget.new.left (as_guide result) }
     ensures less { budget.new.left ≤ budget.old.left }
 {
     if !budget.take() {
         return Err(Stop::Spent);
     }
     match body.put_pure(alloc, arg) {
-        Ok(tree) => Ok(Root::Guide(GuideView::built(tree))),
+        Ok(tree) => Ok(tree),
         Err(stop) => Err(put_stop(stop)),
     }
 }
@@ -500,17 +573,17 @@ fn contract_on(
     body: &GuideView,
     arg: &GuideView,
     budget: &mut Budget,
-) -> Result<Root, Stop>
+) -> Result<Guide, Stop>
     requires used { UsedAs OfTypes 0 guides body.now }
     requires below { IsBelow 4290000000 arg.now }
-    ensures step { (s : List Tree) (xs : List Arg) → MeetsStep s OfType (guide_xtlam body.now) (xs ++ On arg.now ∷ []) budget.old.left xs budget.new.left result }
+    ensures step { (s : List Tree) (xs : List Arg) → MeetsStep s OfType (guide_xtlam body.now) (xs ++ On arg.now ∷ []) budget.old.left xs budget.new.left (as_guide result) }
     ensures less { budget.new.left ≤ budget.old.left }
 {
     if !budget.take() {
         return Err(Stop::Spent);
     }
     match body.put_guide(alloc, arg) {
-        Ok(tree) => Ok(Root::Guide(GuideView::built(tree))),
+        Ok(tree) => Ok(tree),
         Err(stop) => Err(put_stop(stop)),
     }
 }

@@ -93,7 +93,7 @@ pub(crate) fn put_built(
 }
 
 /// The variable, or the part in its place where its number is `under`, and lowered where it is above.
-pub(crate) fn put_variable(
+fn put_variable(
     alloc: Global,
     index: u32,
     passed: &Passed,
@@ -110,8 +110,14 @@ pub(crate) fn put_variable(
     put_number(alloc, number, under, part)
 }
 
+/// The same of a variable of that number, without places.
 #[tactic(auto, using(crate::proofs::Puts::putting))]
-fn put_number(alloc: Global, number: u32, under: u32, part: &Part<'_>) -> Result<Pure, PutStop>
+pub(crate) fn put_number(
+    alloc: Global,
+    number: u32,
+    under: u32,
+    part: &Part<'_>,
+) -> Result<Pure, PutStop>
     requires used { UsedAs (part_sort part.now) under pure_terms (var number) }
     requires below { IsBelow 4290000000 (part_tree part.now) }
     requires fits { under ≤ 4096 }

@@ -8,31 +8,46 @@ ghost use Rattle.cdle_model.specs.Trees.{IsBelow, put, shift, var};
 ghost use Rattle.cdle_model.specs.declared.grammar.Sort.TheVariants.{OfTerm};
 ghost use Rattle.core_tree.specs.Nodes.{PutGives};
 ghost use Rattle.core_view.specs.Passed.{renumbered};
-ghost use Rattle.core_view.specs.Readings.{IsRead, IsTop, node_tree, pure_view_tree};
+ghost use Rattle.core_view.specs.Readings.{IsRead, IsTop, node_tree, pure_view_tree, reading_tree};
 
 use crate::erasure::{Erased, view};
 use crate::part::Part;
 use crate::passed::Passed;
-use crate::pure_put::{put_built, put_variable, put_written};
-use crate::whole::{whole_built, whole_variable, whole_written};
+use crate::pure_put::{put_built, put_number, put_written};
+use crate::whole::{again, whole_built, whole_written};
 use cdle_model::NoMemory;
 use core_tree::{Pure, PureForm, PutStop, Term};
 use std::alloc::{AllocError, Global};
 use std::marker::Model;
+use std::rc::Rc;
 
-/// Where an erased tree is read: at a written term, of which the erasure is meant; at a pure term itself; or a variable.
+/// A node at which an erased tree is read: a written term, of which the erasure is meant, or a pure term itself.
 #[derive(Drop)]
 enum PureNode {
     Written(Term),
     Built(Pure),
-    Variable(u32),
 }
 
-/// A pure term, read at a node, with the places in which the node's numbering of variables differs from its own. Contracts see the tree.
+/// A node with the places in which its numbering of variables differs from that of the tree that is read.
 #[derive(Drop)]
-pub struct PureView {
+struct Placed {
     node: PureNode,
     passed: Passed,
+}
+
+/// Where an erased tree is read. Most are read at a node that has their own numbering, so that alone the others stand behind one more pointer.
+#[derive(Drop)]
+enum Reading {
+    Written(Term),
+    Built(Pure),
+    Variable(u32),
+    Placed(Rc<Placed>),
+}
+
+/// A pure term, read at a node or a variable. Contracts see the tree.
+#[derive(Drop)]
+pub struct PureView {
+    reading: Reading,
 }
 
 /// The head of a pure term, with its parts.
@@ -61,12 +76,11 @@ impl Model for PureView {
 
     ghost coded = { coded_tree };
 
-    ghost use Rattle.core_view.specs.Passed.{renumbered};
-    ghost use Rattle.core_view.specs.Readings.{IsRead, node_tree};
+    ghost use Rattle.core_view.specs.Readings.{IsRead, reading_tree};
 
-    ghost view = { λ a. renumbered 0 a.passed (node_tree a.node) };
+    ghost view = { λ a. reading_tree a.reading };
 
-    ghost invariant = { λ a. IsRead (renumbered 0 a.passed (node_tree a.node)) };
+    ghost invariant = { λ a. IsRead (reading_tree a.reading) };
 }
 
 impl PureNode {
@@ -77,7 +91,20 @@ impl PureNode {
         match self {
             PureNode::Written(term) => Ok(PureNode::Written(term.clone()?)),
             PureNode::Built(term) => Ok(PureNode::Built(term.clone()?)),
-            PureNode::Variable(index) => Ok(PureNode::Variable(*index)),
+        }
+    }
+}
+
+impl Reading {
+    /// The same tree once more, sharing the node.
+    fn share(&self) -> Result<Reading, NoMemory>
+        ensures { IfOk result (λ r. reading_tree r ≡ reading_tree self.now) }
+    {
+        match self {
+            Reading::Written(term) => Ok(Reading::Written(term.clone()?)),
+            Reading::Built(term) => Ok(Reading::Built(term.clone()?)),
+            Reading::Variable(index) => Ok(Reading::Variable(*index)),
+            Reading::Placed(placed) => Ok(Reading::Placed(placed.clone()?)),
         }
     }
 }
@@ -92,10 +119,8 @@ impl PureView {
         term.known();
         // Asked for its bound alone.
         let _depth = term.depth();
-        let term = term.clone()?;
         Ok(PureView {
-            node: PureNode::Written(term),
-            passed: Passed::none(),
+            reading: Reading::Written(term.clone()?),
         })
     }
 
@@ -114,8 +139,7 @@ impl PureView {
         // Asked for its bound alone.
         let _depth = term.depth();
         PureView {
-            node: PureNode::Built(term),
-            passed: Passed::none(),
+            reading: Reading::Built(term),
         }
     }
 
@@ -124,9 +148,19 @@ impl PureView {
         ensures { result ≡ var index }
     {
         PureView {
-            node: PureNode::Variable(index),
-            passed: Passed::none(),
+            reading: Reading::Variable(index),
         }
+    }
+
+    /// The tree that is read at the node, where these places were passed.
+    fn placed(alloc: Global, node: PureNode, passed: Passed) -> Result<PureView, NoMemory>
+        requires { IsRead (renumbered 0 passed (node_tree node)) }
+        ensures { IfOk result (λ t. t ≡ renumbered 0 passed (node_tree node)) }
+    {
+        let placed = Rc::new(alloc, Placed { node, passed })?;
+        Ok(PureView {
+            reading: Reading::Placed(placed),
+        })
     }
 
     /// Tells a proof the class of the tree, and how deep it is at most. It does nothing when it runs.
@@ -134,15 +168,15 @@ impl PureView {
         ensures class { IsOf pure_terms self.now }
         ensures bounded { depth self.now ≤ 65535 }
     {
-        let _ = &self.node;
+        let _ = &self.reading;
     }
 
     /// The pure term itself, where it is read at its own node with its own numbering. It takes no memory.
     pub fn own(&self) -> Option<&Pure>
         ensures { IfSome result (λ t. t.now ≡ self.now) }
     {
-        match &self.node {
-            PureNode::Built(term) if self.passed.is_none() => Some(term),
+        match &self.reading {
+            Reading::Built(term) => Some(term),
             _ => None,
         }
     }
@@ -151,9 +185,9 @@ impl PureView {
     pub fn share(&self) -> Result<PureView, NoMemory>
         ensures { IfOk result (λ t. t ≡ self.now) }
     {
-        let passed = self.passed.share()?;
-        let node = self.node.share()?;
-        Ok(PureView { node, passed })
+        Ok(PureView {
+            reading: self.reading.share()?,
+        })
     }
 
     /// The head alone. It takes no memory.
@@ -162,10 +196,11 @@ impl PureView {
         ensures top { IsTop self.now result }
         ensures class { IsOf pure_terms self.now }
     {
-        match &self.node {
-            PureNode::Written(term) => top_written(term),
-            PureNode::Built(term) => top_built(term),
-            PureNode::Variable(_) => PureTop::Var,
+        match &self.reading {
+            Reading::Written(term) => top_written(term),
+            Reading::Built(term) => top_built(term),
+            Reading::Variable(_) => PureTop::Var,
+            Reading::Placed(placed) => top_node(&placed.node),
         }
     }
 
@@ -173,22 +208,25 @@ impl PureView {
     pub fn form(&self, alloc: Global) -> Result<PureViewForm, NoMemory>
         ensures { IfOk result (λ f. pure_view_tree f ≡ self.now) }
     {
-        match &self.node {
-            PureNode::Written(term) => written_form(alloc, term, &self.passed),
-            PureNode::Built(term) => built_form(term, &self.passed),
-            PureNode::Variable(index) => variable_form(*index, &self.passed),
+        match &self.reading {
+            Reading::Written(term) => written_form(alloc, term, &Passed::none()),
+            Reading::Built(term) => own_form(term),
+            Reading::Variable(index) => Ok(PureViewForm::Var(*index)),
+            Reading::Placed(placed) => node_form(alloc, &placed.node, &placed.passed),
         }
     }
 
     /// The tree over one more variable, whose number is 0.
-    #[tactic(auto, using(crate::proofs::Numbers::raising))]
     pub fn raised(&self, alloc: Global) -> Result<PureView, NoMemory>
         ensures { IfOk result (λ t. t ≡ shift 0 1 self.now) }
     {
         self.known();
-        let passed = self.passed.raised(alloc)?;
-        let node = self.node.share()?;
-        Ok(PureView { node, passed })
+        match &self.reading {
+            Reading::Written(term) => raised_written(alloc, term),
+            Reading::Built(term) => raised_built(alloc, term),
+            Reading::Variable(index) => raised_variable(*index),
+            Reading::Placed(placed) => raised_node(alloc, placed.node.share()?, &placed.passed),
+        }
     }
 
     /// The tree as one, of its own nodes.
@@ -196,19 +234,15 @@ impl PureView {
         ensures { IfOk result (λ t. t ≡ self.now) }
     {
         self.known();
-        match &self.node {
-            PureNode::Written(term) => {
+        match &self.reading {
+            Reading::Written(term) => {
                 // Asked for its bound alone.
                 let _depth = term.depth();
-                whole_written(alloc, term, &self.passed, 0)
+                whole_written(alloc, term, &Passed::none(), 0)
             }
-            PureNode::Built(term) => {
-                // Asked for its bound alone.
-                let _depth = term.depth();
-                refuse_large(term, &self.passed)?;
-                whole_built(alloc, term, &self.passed, 0)
-            }
-            PureNode::Variable(index) => whole_variable(alloc, *index, &self.passed, 0),
+            Reading::Built(term) => again(term),
+            Reading::Variable(index) => Pure::var(alloc, *index),
+            Reading::Placed(placed) => whole_node(alloc, &placed.node, &placed.passed),
         }
     }
 
@@ -219,39 +253,63 @@ impl PureView {
         ensures { PutGives (put 0 part.now self.now) result }
     {
         if let Some(part) = part.own() {
-            return put_node(alloc, &self.node, &self.passed, part);
+            return put(alloc, &self.reading, part);
         }
         let part = part.whole(alloc)?;
-        put_node(alloc, &self.node, &self.passed, &part)
+        put(alloc, &self.reading, &part)
     }
 }
 
-/// The tree that is read at the node, where these places were passed, with the part for the variable 0.
-#[tactic(auto, using(crate::proofs::Puts::entering))]
-fn put_node(alloc: Global, node: &PureNode, passed: &Passed, part: &Pure) -> Result<Pure, PutStop>
-    requires used { UsedAs OfTerm 0 pure_terms (renumbered 0 passed.now (node_tree node.now)) }
-    requires below { IsBelow 4290000000 part.now }
-    ensures { PutGives (put 0 part.now (renumbered 0 passed.now (node_tree node.now))) result }
+/// The tree that is read at the written term, over one more variable.
+fn raised_written(alloc: Global, term: &Term) -> Result<PureView, NoMemory>
+    requires { IsRead (erased term.now) }
+    ensures { IfOk result (λ t. t ≡ shift 0 1 (erased term.now)) }
+{
+    raised_node(alloc, PureNode::Written(term.clone()?), &Passed::none())
+}
+
+fn raised_built(alloc: Global, term: &Pure) -> Result<PureView, NoMemory>
+    requires { IsRead term.now }
+    ensures { IfOk result (λ t. t ≡ shift 0 1 term.now) }
+{
+    raised_node(alloc, PureNode::Built(term.clone()?), &Passed::none())
+}
+
+fn raised_variable(index: u32) -> Result<PureView, NoMemory>
+    ensures { IfOk result (λ t. t ≡ shift 0 1 (var index)) }
+{
+    match index.checked_add(1) {
+        Some(index) => Ok(PureView::variable(index)),
+        None => Err(NoMemory),
+    }
+}
+
+#[tactic(auto, using(crate::proofs::Numbers::raising))]
+fn raised_node(alloc: Global, node: PureNode, passed: &Passed) -> Result<PureView, NoMemory>
+    requires { IsRead (renumbered 0 passed.now (node_tree node)) }
+    ensures { IfOk result (λ t. t ≡ shift 0 1 (renumbered 0 passed.now (node_tree node))) }
+{
+    let passed = passed.raised(alloc)?;
+    PureView::placed(alloc, node, passed)
+}
+
+/// The tree that is read at the node, as one of its own nodes.
+fn whole_node(alloc: Global, node: &PureNode, passed: &Passed) -> Result<Pure, NoMemory>
+    requires { IsRead (renumbered 0 passed.now (node_tree node.now)) }
+    ensures { IfOk result (λ t. t ≡ renumbered 0 passed.now (node_tree node.now)) }
 {
     match node {
         PureNode::Written(term) => {
             // Asked for its bound alone.
             let _depth = term.depth();
-            put_written(alloc, term, passed, 0, 0, &Part::Pure(part))
+            whole_written(alloc, term, passed, 0)
         }
         PureNode::Built(term) => {
-            if passed.is_none() {
-                return term.put_pure(alloc, 0, part);
-            }
-            if term.depth() > 4096 {
-                return Err(PutStop::TooDeep);
-            }
-            if term.is_too_large() {
-                return Err(PutStop::NoMemory);
-            }
-            put_built(alloc, term, passed, 0, 0, &Part::Pure(part))
+            // Asked for its bound alone.
+            let _depth = term.depth();
+            refuse_large(term, passed)?;
+            whole_built(alloc, term, passed, 0)
         }
-        PureNode::Variable(index) => put_variable(alloc, *index, passed, 0, 0, &Part::Pure(part)),
     }
 }
 
@@ -261,6 +319,81 @@ fn refuse_large(term: &Pure, passed: &Passed) -> Result<(), NoMemory> {
         Err(NoMemory)
     } else {
         Ok(())
+    }
+}
+
+/// The tree that is read, with the part for the variable 0.
+fn put(alloc: Global, reading: &Reading, part: &Pure) -> Result<Pure, PutStop>
+    requires used { UsedAs OfTerm 0 pure_terms (reading_tree reading.now) }
+    requires below { IsBelow 4290000000 part.now }
+    ensures { PutGives (put 0 part.now (reading_tree reading.now)) result }
+{
+    match reading {
+        Reading::Written(term) => put_in_written(alloc, term, &Passed::none(), part),
+        Reading::Built(term) => term.put_pure(alloc, 0, part),
+        Reading::Variable(index) => put_for_variable(alloc, *index, part),
+        Reading::Placed(placed) => put_in_node(alloc, &placed.node, &placed.passed, part),
+    }
+}
+
+fn put_in_node(
+    alloc: Global,
+    node: &PureNode,
+    passed: &Passed,
+    part: &Pure,
+) -> Result<Pure, PutStop>
+    requires used { UsedAs OfTerm 0 pure_terms (renumbered 0 passed.now (node_tree node.now)) }
+    requires below { IsBelow 4290000000 part.now }
+    ensures { PutGives (put 0 part.now (renumbered 0 passed.now (node_tree node.now))) result }
+{
+    match node {
+        PureNode::Written(term) => put_in_written(alloc, term, passed, part),
+        PureNode::Built(term) => put_in_built(alloc, term, passed, part),
+    }
+}
+
+#[tactic(auto, using(crate::proofs::Puts::entering))]
+fn put_in_written(alloc: Global, term: &Term, passed: &Passed, part: &Pure) -> Result<Pure, PutStop>
+    requires used { UsedAs OfTerm 0 pure_terms (renumbered 0 passed.now (erased term.now)) }
+    requires below { IsBelow 4290000000 part.now }
+    ensures { PutGives (put 0 part.now (renumbered 0 passed.now (erased term.now))) result }
+{
+    // Asked for its bound alone.
+    let _depth = term.depth();
+    put_written(alloc, term, passed, 0, 0, &Part::Pure(part))
+}
+
+#[tactic(auto, using(crate::proofs::Puts::entering))]
+fn put_in_built(alloc: Global, term: &Pure, passed: &Passed, part: &Pure) -> Result<Pure, PutStop>
+    requires used { UsedAs OfTerm 0 pure_terms (renumbered 0 passed.now term.now) }
+    requires below { IsBelow 4290000000 part.now }
+    ensures { PutGives (put 0 part.now (renumbered 0 passed.now term.now)) result }
+{
+    if term.depth() > 4096 {
+        return Err(PutStop::TooDeep);
+    }
+    if term.is_too_large() {
+        return Err(PutStop::NoMemory);
+    }
+    put_built(alloc, term, passed, 0, 0, &Part::Pure(part))
+}
+
+#[tactic(auto, using(crate::proofs::Puts::entering))]
+fn put_for_variable(alloc: Global, index: u32, part: &Pure) -> Result<Pure, PutStop>
+    requires used { UsedAs OfTerm 0 pure_terms (var index) }
+    requires below { IsBelow 4290000000 part.now }
+    ensures { PutGives (put 0 part.now (var index)) result }
+{
+    put_number(alloc, index, 0, &Part::Pure(part))
+}
+
+/// The head of the tree that is read at the node, without any places.
+fn top_node(node: &PureNode) -> PureTop
+    ensures { IsTop (node_tree node.now) result }
+{
+    match node {
+        PureNode::Written(term) => top_written(term),
+        PureNode::Built(term) => top_built(term),
     }
 }
 
@@ -292,6 +425,33 @@ fn top_built(term: &Pure) -> PureTop
     }
 }
 
+/// The head of the pure term itself, with its parts.
+fn own_form(term: &Pure) -> Result<PureViewForm, NoMemory>
+    ensures { IfOk result (λ f. pure_view_tree f ≡ term.now) }
+{
+    match term.form() {
+        PureForm::Var(index) => Ok(PureViewForm::Var(*index)),
+        PureForm::Name(item) => Ok(PureViewForm::Name(*item)),
+        PureForm::Function(part) => Ok(PureViewForm::Function(PureView::of_pure(part)?)),
+        PureForm::Ap(head, arg) => {
+            let head = PureView::of_pure(head)?;
+            let arg = PureView::of_pure(arg)?;
+            Ok(PureViewForm::Ap(head, arg))
+        }
+    }
+}
+
+/// The head of the tree that is read at the node with its parts, where these places were passed.
+fn node_form(alloc: Global, node: &PureNode, passed: &Passed) -> Result<PureViewForm, NoMemory>
+    requires { IsRead (renumbered 0 passed.now (node_tree node.now)) }
+    ensures { IfOk result (λ f. pure_view_tree f ≡ renumbered 0 passed.now (node_tree node.now)) }
+{
+    match node {
+        PureNode::Written(term) => written_form(alloc, term, passed),
+        PureNode::Built(term) => built_form(alloc, term, passed),
+    }
+}
+
 /// The head of the term's erasure with its parts, where these places were passed.
 fn written_form(alloc: Global, term: &Term, passed: &Passed) -> Result<PureViewForm, NoMemory>
     requires { IsRead (renumbered 0 passed.now (erased term.now)) }
@@ -300,32 +460,37 @@ fn written_form(alloc: Global, term: &Term, passed: &Passed) -> Result<PureViewF
     match view(term) {
         Erased::Var(index) => variable_form(index, passed),
         Erased::Name(item) => Ok(PureViewForm::Name(item)),
-        Erased::Lam(part) => function_form(PureNode::Written(part.clone()?), passed),
+        Erased::Lam(part) => function_form(alloc, PureNode::Written(part.clone()?), passed),
         Erased::App(head, arg) => {
             let head = head.clone()?;
             let arg = arg.clone()?;
-            ap_form(PureNode::Written(head), PureNode::Written(arg), passed)
+            ap_form(
+                alloc,
+                PureNode::Written(head),
+                PureNode::Written(arg),
+                passed,
+            )
         }
         Erased::Pass(part) => written_form(alloc, part, passed),
         Erased::Under(part) => written_form(alloc, part, &passed.erased(alloc, 0)?),
-        Erased::Pure(kept) => built_form(kept, passed),
+        Erased::Pure(kept) => built_form(alloc, kept, passed),
         Erased::Identity => Ok(PureViewForm::Function(PureView::variable(0))),
     }
 }
 
 /// The head of the pure term with its parts, where these places were passed.
-fn built_form(term: &Pure, passed: &Passed) -> Result<PureViewForm, NoMemory>
+fn built_form(alloc: Global, term: &Pure, passed: &Passed) -> Result<PureViewForm, NoMemory>
     requires { IsRead (renumbered 0 passed.now term.now) }
     ensures { IfOk result (λ f. pure_view_tree f ≡ renumbered 0 passed.now term.now) }
 {
     match term.form() {
         PureForm::Var(index) => variable_form(*index, passed),
         PureForm::Name(item) => Ok(PureViewForm::Name(*item)),
-        PureForm::Function(part) => function_form(PureNode::Built(part.clone()?), passed),
+        PureForm::Function(part) => function_form(alloc, PureNode::Built(part.clone()?), passed),
         PureForm::Ap(head, arg) => {
             let head = head.clone()?;
             let arg = arg.clone()?;
-            ap_form(PureNode::Built(head), PureNode::Built(arg), passed)
+            ap_form(alloc, PureNode::Built(head), PureNode::Built(arg), passed)
         }
     }
 }
@@ -339,29 +504,51 @@ fn variable_form(index: u32, passed: &Passed) -> Result<PureViewForm, NoMemory>
 }
 
 /// The function of which the part is read at the node.
-fn function_form(node: PureNode, passed: &Passed) -> Result<PureViewForm, NoMemory>
+fn function_form(alloc: Global, node: PureNode, passed: &Passed) -> Result<PureViewForm, NoMemory>
     requires { IsRead (fn (renumbered 1 passed.now (node_tree node))) }
     ensures { IfOk result (λ f. pure_view_tree f ≡ fn (renumbered 1 passed.now (node_tree node))) }
 {
     let passed = passed.kept(1)?;
-    Ok(PureViewForm::Function(PureView { node, passed }))
+    Ok(PureViewForm::Function(read(alloc, node, passed)?))
 }
 
 /// The application of which the parts are read at the nodes.
-fn ap_form(head: PureNode, arg: PureNode, passed: &Passed) -> Result<PureViewForm, NoMemory>
+fn ap_form(
+    alloc: Global,
+    head: PureNode,
+    arg: PureNode,
+    passed: &Passed,
+) -> Result<PureViewForm, NoMemory>
     requires { IsRead (ap (renumbered 0 passed.now (node_tree head)) (renumbered 0 passed.now (node_tree arg))) }
     ensures { IfOk result (λ f. pure_view_tree f ≡ ap (renumbered 0 passed.now (node_tree head)) (renumbered 0 passed.now (node_tree arg))) }
 {
-    let over_head = passed.share()?;
-    let over_arg = passed.share()?;
-    Ok(PureViewForm::Ap(
-        PureView {
-            node: head,
-            passed: over_head,
+    let head = read(alloc, head, passed.share()?)?;
+    let arg = read(alloc, arg, passed.share()?)?;
+    Ok(PureViewForm::Ap(head, arg))
+}
+
+/// The tree that is read at the node, where these places were passed, or none were.
+fn read(alloc: Global, node: PureNode, passed: Passed) -> Result<PureView, NoMemory>
+    requires { IsRead (renumbered 0 passed (node_tree node)) }
+    ensures { IfOk result (λ t. t ≡ renumbered 0 passed (node_tree node)) }
+{
+    if !passed.is_none() {
+        return PureView::placed(alloc, node, passed);
+    }
+    Ok(unplaced(node))
+}
+
+/// The tree that is read at the node with its own numbering.
+fn unplaced(node: PureNode) -> PureView
+    requires { IsRead (node_tree node) }
+    ensures { result ≡ node_tree node }
+{
+    match node {
+        PureNode::Written(term) => PureView {
+            reading: Reading::Written(term),
         },
-        PureView {
-            node: arg,
-            passed: over_arg,
+        PureNode::Built(term) => PureView {
+            reading: Reading::Built(term),
         },
-    ))
+    }
 }

@@ -75,12 +75,7 @@ pub(crate) fn whole_built(
 }
 
 /// The same of a variable.
-pub(crate) fn whole_variable(
-    alloc: Global,
-    index: u32,
-    passed: &Passed,
-    from: u32,
-) -> Result<Pure, NoMemory>
+fn whole_variable(alloc: Global, index: u32, passed: &Passed, from: u32) -> Result<Pure, NoMemory>
     requires { IsOf pure_terms (renumbered from passed.now (var index)) }
     ensures { IfOk result (λ t. t ≡ renumbered from passed.now (var index)) }
 {

@@ -2,7 +2,7 @@ use Rattle.std.proofs.Common.{◌++◌, ◌∷◌, [], ◌∙◌, ap, sym, subst
 use Rattle.cdle_model.specs.Trees.{of_pure}
 use Rattle.cdle_model.specs.Forms.{fn}
 use Rattle.core_reduce.specs.declared.side.SideClass.TheVariants.{OfPure}
-use Rattle.core_reduce.specs.Heads.{MeetsStep}
+use Rattle.core_reduce.specs.Heads.{MeetsStep, as_pure}
 use Rattle.core_reduce.proofs.Placing.{ap_used, ap_only, moving_applied}
 use Rattle.core_reduce.proofs.reduce.apply_ap.Goals as goal
 
@@ -25,5 +25,5 @@ unreachable-requires c =
 
 pub returns-clause-step : goal.returns-clause-step
 returns-clause-step c s =
-    subst (λ z. MeetsStep s OfPure (fn c.args.body.now) z c.args.budget.now.left c.pop.new.args.items c.contract_ap.new.budget.left c.contract_ap.result)
+    subst (λ z. MeetsStep s OfPure (fn c.args.body.now) z c.args.budget.now.left c.pop.new.args.items c.contract_ap.new.budget.left (as_pure c.contract_ap.result))
     (sym (c.pop.ensures ∙ ap (λ z. c.pop.new.args.items ++ z ∷ []) c.in-Ap.is)) (c.contract_ap.ensures.step s c.pop.new.args.items)

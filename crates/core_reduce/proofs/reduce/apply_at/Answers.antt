@@ -2,7 +2,7 @@ use Rattle.std.proofs.Common.{◌++◌, ◌∷◌, [], ◌∙◌, ap, sym, subst
 use Rattle.cdle_model.specs.Trees.{of_term}
 use Rattle.cdle_model.specs.Forms.{guide_tlam}
 use Rattle.core_reduce.specs.declared.side.SideClass.TheVariants.{OfType}
-use Rattle.core_reduce.specs.Heads.{MeetsStep}
+use Rattle.core_reduce.specs.Heads.{MeetsStep, as_guide}
 use Rattle.core_reduce.proofs.Placing.{at_used, no_at, moving_function, moving_applied}
 use Rattle.core_reduce.proofs.reduce.apply_at.Goals as goal
 
@@ -26,5 +26,5 @@ unreachable-requires c =
 
 pub returns-clause-step : goal.returns-clause-step
 returns-clause-step c s =
-    subst (λ z. MeetsStep s OfType (guide_tlam c.args.body.now) z c.args.budget.now.left c.pop.new.args.items c.contract_at.new.budget.left c.contract_at.result)
+    subst (λ z. MeetsStep s OfType (guide_tlam c.args.body.now) z c.args.budget.now.left c.pop.new.args.items c.contract_at.new.budget.left (as_guide c.contract_at.result))
     (sym (c.pop.ensures ∙ ap (λ z. c.pop.new.args.items ++ z ∷ []) c.in-At.is)) (c.contract_at.ensures.step s c.pop.new.args.items)

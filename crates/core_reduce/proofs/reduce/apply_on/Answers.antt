@@ -2,7 +2,7 @@ use Rattle.std.proofs.Common.{◌++◌, ◌∷◌, [], ◌∙◌, ap, sym, subst
 use Rattle.cdle_model.specs.Trees.{of_type}
 use Rattle.cdle_model.specs.Forms.{guide_xtlam}
 use Rattle.core_reduce.specs.declared.side.SideClass.TheVariants.{OfType}
-use Rattle.core_reduce.specs.Heads.{MeetsStep}
+use Rattle.core_reduce.specs.Heads.{MeetsStep, as_guide}
 use Rattle.core_reduce.proofs.Placing.{on_used, no_on, moving_function, moving_applied}
 use Rattle.core_reduce.proofs.reduce.apply_on.Goals as goal
 
@@ -26,5 +26,5 @@ unreachable-requires c =
 
 pub returns-clause-step : goal.returns-clause-step
 returns-clause-step c s =
-    subst (λ z. MeetsStep s OfType (guide_xtlam c.args.body.now) z c.args.budget.now.left c.pop.new.args.items c.contract_on.new.budget.left c.contract_on.result)
+    subst (λ z. MeetsStep s OfType (guide_xtlam c.args.body.now) z c.args.budget.now.left c.pop.new.args.items c.contract_on.new.budget.left (as_guide c.contract_on.result))
     (sym (c.pop.ensures ∙ ap (λ z. c.pop.new.args.items ++ z ∷ []) c.in-On.is)) (c.contract_on.ensures.step s c.pop.new.args.items)

@@ -1,4 +1,4 @@
-use Rattle.std.proofs.Common.{◌∙◌, refl, subst, sym, Err, [], ◌∷◌, ◌++◌}
+use Rattle.std.proofs.Common.{refl, subst, sym, Err, [], ◌∷◌, ◌++◌}
 use Rattle.cdle_model.specs.Forms.{guide_tlam}
 use Rattle.core_reduce.specs.declared.root.Root.TheVariants as r
 use Rattle.core_reduce.specs.declared.root.Arg.TheVariants.{At}
@@ -12,8 +12,8 @@ returns-then-not-take-clause-step c s xs = redex_halts s c.args.body.now xs (At 
 
 pub returns-in-Ok-clause-step : goal.returns-in-Ok-clause-step
 returns-in-Ok-clause-step c s xs =
-    redex_steps s c.args.body.now xs (At c.args.arg.now) OfType c.args.budget.now.left c.take.new.self.left (r.Guide c.built.result) refl (c.take.ensures.taken c.if-not-take.false)
-    (c.built.ensures ∙ c.in-Ok.ensures.0, c.in-Ok.ensures.1)
+    redex_steps s c.args.body.now xs (At c.args.arg.now) OfType c.args.budget.now.left c.take.new.self.left (r.Guide c.in-Ok.tree) refl (c.take.ensures.taken c.if-not-take.false)
+    c.in-Ok.ensures
 
 pub returns-in-Err-clause-step : goal.returns-in-Err-clause-step
 returns-in-Err-clause-step c s xs =

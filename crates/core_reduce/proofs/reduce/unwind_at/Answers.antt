@@ -10,5 +10,5 @@ use Rattle.core_reduce.proofs.reduce.unwind_at.Goals as goal
 
 pub returns : goal.returns
 returns c s units =
-    subst (λ ys. MeetsStep s OfType (at_ c.args.head.now c.args.arg.now) c.args.args.now.items units ys units (Ok (r.Guide c.in_ok-of_guide.field-0))) (sym c.in_ok-push.ensures.items)
-    (app_unwinds s OfType of_term c.args.head.now c.args.arg.now c.args.args.now.items (At c.in_ok-of_pure.field-0) units (r.Guide c.in_ok-of_guide.field-0) refl c.in_ok-of_pure.ensures c.in_ok-of_guide.ensures refl)
+    subst (λ ys. MeetsStep s OfType (at_ c.args.head.now c.args.arg.now) c.args.args.now.items units ys units (Ok (r.Guide c.in_ok-clone.field-0))) (sym c.in_ok-push.ensures.items)
+    (app_unwinds s OfType of_term c.args.head.now c.args.arg.now c.args.args.now.items (At c.in_ok-of_pure.field-0) units (r.Guide c.in_ok-clone.field-0) refl c.in_ok-of_pure.ensures c.in_ok-clone.ensures.cases refl)
