@@ -59,10 +59,15 @@ fn answer(alloc: Global, line: &str, text: &[u8]) -> Result<String, Fail> {
     run(alloc, line, &mut folder)
 }
 
-/// The same of `core a.core`, where the file is this behind its first line.
-fn answer_of(alloc: Global, items: &str) -> Result<String, Fail> {
+/// The same, where the file is this behind its first line.
+fn answer_to(alloc: Global, line: &str, items: &str) -> Result<String, Fail> {
     let text = format!(in alloc; "core 1\n{items}\n")?;
-    answer(alloc, "core a.core", text.as_bytes())
+    answer(alloc, line, text.as_bytes())
+}
+
+/// The same of `core a.core`.
+fn answer_of(alloc: Global, items: &str) -> Result<String, Fail> {
+    answer_to(alloc, "core a.core", items)
 }
 
 #[test]
@@ -239,68 +244,102 @@ fn answer_of_items(alloc: Global, count: u32, more: &str) -> Result<String, Fail
 }
 
 #[test]
-fn limits(rt: HostRuntime) -> Result<(), Fail> {
-    let alloc = rt.alloc();
+fn limit_of_bytes(rt: HostRuntime) -> Result<(), Fail> {
     let rows = [
         (1_048_576, "0 accepted 0\n"),
         (1_048_577, "9 limit a.core: bytes\n"),
     ];
     for (bytes, wanted) in rows.iter() {
-        assert_eq!(rt; answer_of_bytes(alloc, *bytes)?.as_str(), *wanted);
-    }
-    let rows = [
-        (1023, "3 refused t at 2: wrong kind\n"),
-        (1024, "9 limit a.core: nesting\n"),
-    ];
-    for (deep, wanted) in rows.iter() {
-        assert_eq!(rt; answer_of_nested(alloc, *deep)?.as_str(), *wanted);
-    }
-    let rows = [
-        ("", "0 accepted 10000\n"),
-        ("(type t * (allt X * X))", "9 limit a.core: items\n"),
-    ];
-    for (more, wanted) in rows.iter() {
-        assert_eq!(rt; answer_of_items(alloc, 10_000, more)?.as_str(), *wanted);
+        assert_eq!(rt; answer_of_bytes(rt.alloc(), *bytes)?.as_str(), *wanted);
     }
     Ok(())
 }
 
 #[test]
-fn budgets(rt: HostRuntime) -> Result<(), Fail> {
-    let alloc = rt.alloc();
+fn limit_of_nesting(rt: HostRuntime) -> Result<(), Fail> {
+    let rows = [
+        (1023, "3 refused t at 2: wrong kind\n"),
+        (1024, "9 limit a.core: nesting\n"),
+    ];
+    for (deep, wanted) in rows.iter() {
+        assert_eq!(rt; answer_of_nested(rt.alloc(), *deep)?.as_str(), *wanted);
+    }
+    Ok(())
+}
+
+#[test]
+fn limit_of_items(rt: HostRuntime) -> Result<(), Fail> {
+    let rows = [
+        ("", "0 accepted 10000\n"),
+        ("(type t * (allt X * X))", "9 limit a.core: items\n"),
+    ];
+    for (more, wanted) in rows.iter() {
+        assert_eq!(rt;
+            answer_of_items(rt.alloc(), 10_000, more)?.as_str(),
+            *wanted
+        );
+    }
+    Ok(())
+}
+
+#[test]
+fn budgets_of_omega(rt: HostRuntime) -> Result<(), Fail> {
     let omega =
         "(def o (eq (ap (fn w (ap w w)) (fn w (ap w w))) (fn x x)) (beta (fn x x) (fn x x)))";
-    let twice = nested(alloc, 20, ["(ap (fn x (ap x x)) ", "(fn y y)", ")"])?;
-    let tower = format!(in alloc; "(def d (eq {twice} (fn y y)) (beta (fn y y) (fn y y)))")?;
-    let grow = "(fn x (fn a (ap (ap x x) (ap (fn y y) a))))";
-    let deep = format!(in alloc;
-        "(def h (eq (ap (ap {grow} {grow}) (fn z z)) (fn x x)) (beta (fn x x) (fn x x)))"
-    )?;
     let rows = [
-        (omega, "core a.core", "4 undecided o at 2: budget 200000\n"),
+        ("core a.core", "4 undecided o at 2: budget 200000\n"),
+        ("core --budget 7 a.core", "4 undecided o at 2: budget 7\n"),
+    ];
+    for (line, wanted) in rows.iter() {
+        assert_eq!(rt; answer_to(rt.alloc(), line, omega)?.as_str(), *wanted);
+    }
+    Ok(())
+}
+
+/// Twenty doublings, one in another.
+fn tower(alloc: Global) -> Result<String, Fail> {
+    let twice = nested(alloc, 20, ["(ap (fn x (ap x x)) ", "(fn y y)", ")"])?;
+    Ok(format!(in alloc; "(def d (eq {twice} (fn y y)) (beta (fn y y) (fn y y)))")?)
+}
+
+#[test]
+fn budgets_of_the_tower(rt: HostRuntime) -> Result<(), Fail> {
+    let tower = tower(rt.alloc())?;
+    let rows = [
+        ("core a.core", "4 undecided d at 2: budget 200000\n"),
+        ("core --budget 3000000 a.core", "0 accepted 1\n"),
+    ];
+    for (line, wanted) in rows.iter() {
+        assert_eq!(rt; answer_to(rt.alloc(), line, &tower)?.as_str(), *wanted);
+    }
+    Ok(())
+}
+
+/// A term that grows as it is contracted, without end.
+fn growing(alloc: Global) -> Result<String, Fail> {
+    let grow = "(fn x (fn a (ap (ap x x) (ap (fn y y) a))))";
+    Ok(format!(in alloc;
+        "(def h (eq (ap (ap {grow} {grow}) (fn z z)) (fn x x)) (beta (fn x x) (fn x x)))"
+    )?)
+}
+
+#[test]
+fn budgets_of_what_grows(rt: HostRuntime) -> Result<(), Fail> {
+    let deep = growing(rt.alloc())?;
+    let rows = [
+        ("core a.core", "9 limit h: depth\n"),
         (
-            omega,
-            "core --budget 7 a.core",
-            "4 undecided o at 2: budget 7\n",
-        ),
-        (&tower, "core a.core", "4 undecided d at 2: budget 200000\n"),
-        (&tower, "core --budget 3000000 a.core", "0 accepted 1\n"),
-        (&deep, "core a.core", "9 limit h: depth\n"),
-        (
-            &deep,
             "core --budget 1000 a.core",
             "4 undecided h at 2: budget 1000\n",
         ),
         (
-            &deep,
             "core --budget 8191 a.core",
             "4 undecided h at 2: budget 8191\n",
         ),
-        (&deep, "core --budget 8192 a.core", "9 limit h: depth\n"),
+        ("core --budget 8192 a.core", "9 limit h: depth\n"),
     ];
-    for (item, line, wanted) in rows.iter() {
-        let text = format!(in alloc; "core 1\n{item}\n")?;
-        assert_eq!(rt; answer(alloc, line, text.as_bytes())?.as_str(), *wanted);
+    for (line, wanted) in rows.iter() {
+        assert_eq!(rt; answer_to(rt.alloc(), line, &deep)?.as_str(), *wanted);
     }
     Ok(())
 }

@@ -238,11 +238,21 @@ fn units(rt: HostRuntime) {
     assert!(rt; matches!(first_with(alloc, &mut budget), Ok(true)));
     assert_eq!(rt; budget.left, 0);
     assert!(rt; matches!(identity_with(alloc, &mut budget), Err(Stop::Spent)));
+}
+
+#[test]
+fn units_that_are_too_few(rt: HostRuntime) {
+    let alloc = rt.alloc();
     let mut budget = Budget::new(1);
     assert!(rt; matches!(first_with(alloc, &mut budget), Err(Stop::Spent)));
     let mut budget = Budget::new(1000);
     assert!(rt; matches!(omega_with(alloc, &mut budget), Err(Stop::Spent)));
     assert_eq!(rt; budget.left, 0);
+}
+
+#[test]
+fn units_of_a_name(rt: HostRuntime) {
+    let alloc = rt.alloc();
     let mut budget = Budget::new(1);
     assert!(rt; matches!(name_with(alloc, &mut budget), Ok(true)));
     assert!(rt; !budget.take());
