@@ -70,6 +70,7 @@ pub data Symbol : Type 0 where
   Imports Items : Symbol
   Parameters Constructors : ℕ → Symbol
 
+-- what is wanted next: a test, a making, or that a symbol is read
 pub data Want : Type 0 where
   Test_ : Test → Want
   Make : Making → Want

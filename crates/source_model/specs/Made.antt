@@ -11,12 +11,15 @@ use Rattle.source_model.specs.Rows.{Leaving, LeftOut, NotGiven}
 
 -- ---- parts of a tree
 
+-- the bytes between two places
 abbrev pub span : ℕ → ℕ → Span
 span from to = record { from = from; to = to }
 
+-- where a part begins
 abbrev pub from_of : {A : Type 0} → Tree A → ℕ
 from_of t = (span_of t).from
 
+-- where it ends
 abbrev pub to_of : {A : Type 0} → Tree A → ℕ
 to_of t = (span_of t).to
 
@@ -32,6 +35,7 @@ from_sign t to tree = part t.span.from (tree (span t.span.from to))
 abbrev pub use_alone : {A : Type 0} → Token A → Tree A
 use_alone x = use_of x.span (record { owner = None; name = x.name })
 
+-- a name of a module, as `M#x`: the name last, the module's before it
 abbrev pub use_in : {A : Type 0} → Token A → Token A → Tree A
 use_in m x = use_of (span m.span.from x.span.to) (record { owner = Some m.name; name = x.name })
 
@@ -39,6 +43,7 @@ use_in m x = use_of (span m.span.from x.span.to) (record { owner = Some m.name; 
 abbrev pub product : {A : Type 0} → Span → Option A → Tree A → Tree A → Tree A
 product s x a b = bind s (cond (is_kind b) (cond (is_kind a) kpit_of kpi_of) pi_of) x a b
 
+-- `∀ x : A . B` and `A ➾ B`
 abbrev pub forall : {A : Type 0} → Span → Option A → Tree A → Tree A → Tree A
 forall s x a b = bind s (cond (is_kind a) allt_of all_of) x a b
 
@@ -51,6 +56,7 @@ abbrev pub inner : {A : Type 0} → Value A → Tree A
 inner (enclosed to t) = t
 inner v = none nowhere
 
+-- the place behind the option's last sign, or the place given where it was left out
 abbrev pub behind : {A : Type 0} → Value A → ℕ → ℕ
 behind (enclosed to t) before = to
 behind v before = before
@@ -60,12 +66,14 @@ abbrev pub chained : {A : Type 0} → List (Branch A) → Tree A
 chained [] = none nowhere
 chained (b ∷ bs) = branch b.span (record { owner = b.owner; name = b.name }) b.patterns b.part (chained bs)
 
+-- a branch, of its constructor, its pattern and its part
 abbrev pub a_branch : {A : Type 0} → Tree A → List (Pattern (Option A)) → Tree A → List (Branch A)
 a_branch (use_of s n) ps t = record { span = s; owner = n.owner; name = n.name; patterns = ps; part = t } ∷ []
 a_branch c ps t = []
 
 -- ---- items
 
+-- a module with one more item, which is its last
 abbrev pub with_item : {A : Type 0} → Item A → Module A → Module A
 with_item i b = record b { items = b.items ++ i ∷ [] }
 
@@ -77,9 +85,11 @@ with_import text x b = cond (list_any (λ i. bytes_eq (text x.name) (text i.0)) 
 abbrev pub defined : {A : Type 0} → Token A → Tree A → Tree A → Item A
 defined x c t = cond (is_kind c) (type_item x.span x.name c t) (def_item x.span x.name c t)
 
+-- a parameter of a datatype, of its name and its class
 abbrev pub a_parameter : {A : Type 0} → Token A → Tree A → Parameter (Option A) (NameUse A)
 a_parameter x c = record { span = x.span; binder = Some x.name; sort = cond (is_kind c) OfType OfTerm; class = c }
 
+-- a constructor, of its name and its type
 abbrev pub a_constructor : {A : Type 0} → Token A → Tree A → Constructor A (Option A) (NameUse A)
 a_constructor x c = record { span = x.span; name = x.name; type = c }
 

@@ -30,9 +30,11 @@ pub record Given (A : Type 0) : Type 0 where
 
 -- ---- tests
 
+-- what is wrong, if anything is
 abbrev pub Complaint : Type 0
 Complaint = Option Fault
 
+-- this is wrong where the test fails
 abbrev pub unless : Bool → Fault → Complaint
 unless b f = cond b None (Some f)
 
@@ -41,6 +43,7 @@ abbrev pub domain_word : {A : Type 0} → List (Value A) → Wanted
 domain_word (token d ∷ part f a ∷ vs) = cond (is_kind a) wanted.Kind wanted.Class
 domain_word vs = wanted.Class
 
+-- a text with `/`
 abbrev pub has_slash : List ℕ → Bool
 has_slash w = list_any (λ b. b == 47) w
 
@@ -63,6 +66,7 @@ need_word any vs = wanted.Class
 need_word of_type vs = wanted.Ty
 need_word as_domain vs = domain_word vs
 
+-- the word of a symbol that must stand, by what was read before it
 unfoldable pub word_of : {A : Type 0} → Symbol → List (Value A) → Wanted
 word_of (The t w) vs = w
 word_of (ClassAtom n w) vs = w
@@ -82,14 +86,17 @@ abbrev pub absent : {A : Type 0} → ℕ → Symbol → Leaving → List (Value 
 absent at s MustStand vs = Err (Unexpected at (word_of s vs))
 absent at s l vs = Ok (stays (left_out l vs))
 
+-- a symbol before a token: its row is wanted where it has one, and else it is absent
 abbrev pub begun : {A : Type 0} → Symbol → Token A → List (Value A) → Option (List Want) → Result (Step A) Fault
 begun s t vs (Some ws) = Ok (takes t ws (token t ∷ vs))
 begun s t vs None = absent t.span.from s (leaving s) vs
 
+-- a test is done where nothing is wrong
 abbrev pub tested : {A : Type 0} → List (Value A) → Complaint → Result (Step A) Fault
 tested vs None = Ok (stays vs)
 tested vs (Some f) = Err f
 
+-- what a want comes to, before a token or at the end, behind a token at a place and with these values
 unfoldable pub step : {A : Type 0} → Given A → Option (Token A) → ℕ → Want → List (Value A) → Result (Step A) Fault
 step g next at (Test_ q) vs = tested vs (complaint g q at vs)
 step g next at (Make f) vs = Ok (stays (made g.text f vs))
@@ -103,10 +110,12 @@ pub data Settled (A : Type 0) : Type 0 where
   done : List (Value A) → Settled A
   taken : Token A → List Want → List (Value A) → Settled A
 
+-- the rest of the wants, where the first was done without the token; else they stand behind its row
 abbrev pub settle_on : {A : Type 0} → List Want → (List (Value A) → Result (Settled A) Fault) → Step A → Result (Settled A) Fault
 settle_on ws more (stays vs) = more vs
 settle_on ws more (takes t front vs) = Ok (taken t (front ++ ws) vs)
 
+-- what the wants come to before a token, or at the end
 unfoldable pub settle : {A : Type 0} → Given A → Option (Token A) → ℕ → List Want → List (Value A) → Result (Settled A) Fault
 settle g next at [] vs = Ok (done vs)
 settle g next at (w ∷ ws) vs = step g next at w vs >>= settle_on ws (λ us. settle g next at ws us)
@@ -117,9 +126,11 @@ pub record State (A : Type 0) : Type 0 where
   pub tokens : List (Token A)
   pub values : List (Value A)
 
+-- where reading stands, or the first fault
 abbrev pub Reading : Type 0 → Type 0
 Reading A = Result (State A) Fault
 
+-- reading ends where all wants are done, and goes on behind a token that was taken
 abbrev pub run_on : {A : Type 0} → (List (Value A) → State A) → (Token A → List Want → List (Value A) → Reading A) → Settled A → Reading A
 run_on ends goes (done vs) = Ok (ends vs)
 run_on ends goes (taken t ws vs) = goes t ws vs
@@ -148,6 +159,7 @@ abbrev pub by_row : {A : Type 0} → Given A → Symbol → State A → Token A 
 by_row g s r t ts (Some front) = turn g front (record { at = t.span.from; tokens = ts; values = token t ∷ r.values })
 by_row g s r t ts None = missed t.span.from s (leaving s) r
 
+-- reading stays where it stands, or ends with what is wrong
 abbrev pub judged : {A : Type 0} → State A → Complaint → Reading A
 judged r None = Ok r
 judged r (Some f) = Err f
@@ -159,6 +171,7 @@ abbrev pub ended : {A : Type 0} → List (Value A) → List (Token A) → Result
 ended vs [] = Ok vs
 ended vs (t ∷ ts) = Err (Unexpected t.span.from wanted.Item)
 
+-- the values that a whole text leaves, or its first fault
 unfoldable pub parsed : {A : Type 0} → Given A → List (Token A) → Result (List (Value A)) Fault
 parsed g ts = run g a_module 0 ts [] >>= λ s. ended s.values s.tokens
 

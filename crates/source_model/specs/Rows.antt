@@ -9,6 +9,7 @@ use Rattle.source_model.specs.declared.token.TokenKind.TheVariants as k
 use Rattle.source_model.specs.declared.wanted.Wanted.TheVariants as wanted
 use Rattle.cdle_model.specs.declared.grammar.Count.TheVariants as many
 
+-- what follows, where the symbol begins so
 abbrev pub Row : Type 0
 Row = Option (List Want)
 
@@ -22,6 +23,7 @@ infixl 30 ◌▸◌
 abbrev pub sign : TokenKind → Want
 sign t = Read (The t (wanted.Token t))
 
+-- a name that must stand there
 abbrev pub binding : Want
 binding = Read (The k.Name wanted.Name)
 
@@ -68,6 +70,7 @@ kind_number k.Import = 37
 kind_number k.Data = 38
 kind_number k.Name = 39
 
+-- two kinds of tokens are one
 abbrev pub same_kind : TokenKind → TokenKind → Bool
 same_kind s t = eqb (kind_number s) (kind_number t)
 
@@ -78,6 +81,7 @@ only false ws = None
 
 -- ---- terms; inside them nesting may still rise so often
 
+-- simple = name | "(" term ")" | "[" term "," term "]" | "β" [ "<" term ">" ] [ "{" term "}" ]
 abbrev pub atom_row : ℕ → TokenKind → Row
 atom_row n k.Name = Some (Read Owner ∷ Make m.Named ∷ [])
 atom_row n k.Open = Some (Read (Term n) ∷ sign k.Close ∷ Make m.Parenthesized ∷ [])
@@ -85,15 +89,19 @@ atom_row n k.OpenBracket = Some (Read (Term n) ∷ sign k.Comma ∷ Read (Term n
 atom_row n k.Beta = Some (Read (Side n) ∷ Read (KeptTerm n) ∷ Make m.Beta ∷ [])
 atom_row n t = None
 
+-- atom = simple { ".1" | ".2" }
 abbrev pub whole_atom_row : ℕ → TokenKind → Row
 whole_atom_row n t = atom_row n t ▸ (Read Projections ∷ [])
 
+-- spine = atom { atom | "-" atom | "·" catom }
 abbrev pub spine_row : ℕ → TokenKind → Row
 spine_row n t = whole_atom_row n t ▸ (Read (Arguments n) ∷ [])
 
+-- what `μ r .` and `σ` have behind them: spine [ "@" catom ] "{" { branch } "}"
 abbrev pub case_rows : ℕ → List Want
 case_rows n = Read (Spine n) ∷ Read (Motive n) ∷ sign k.OpenBrace ∷ Make m.NoBranches ∷ Read (Branches n) ∷ Read (The k.CloseBrace wanted.Branch) ∷ []
 
+-- term: an abstraction, a form of its own letter, or a spine; the domain of a `λ` is a type
 abbrev pub term_row : ℕ → TokenKind → Row
 term_row n k.Lambda = Some (binding ∷ Read (Annotation n of_type) ∷ sign k.Period ∷ Read (Term n) ∷ Make m.Lam ∷ [])
 term_row n k.BigLambda = Some (binding ∷ Read (Annotation n any) ∷ sign k.Period ∷ Read (Term n) ∷ Make m.Elam ∷ [])
@@ -119,10 +127,12 @@ abbrev pub one_less : Option ℕ → Option ℕ
 one_less None = None
 one_less (Some n) = Some (pred n)
 
+-- where arguments are counted, one more may still come
 abbrev pub counted : Option ℕ → List Want
 counted None = []
 counted (Some n) = Test_ (HasRoomFor many.Arguments n) ∷ []
 
+-- catom = "★" | name | "(" class ")" | "{" term "≃" term "}"
 abbrev pub class_atom_row : ℕ → TokenKind → Row
 class_atom_row n k.Star = Some (Make m.Star ∷ [])
 class_atom_row n k.Name = Some (Read Owner ∷ Make m.Named ∷ [])
@@ -130,6 +140,8 @@ class_atom_row n k.Open = Some (Read (Class n any None) ∷ sign k.Close ∷ Mak
 class_atom_row n k.OpenBrace = Some (Read (Term n) ∷ sign k.Equal ∷ Read (Term n) ∷ sign k.CloseBrace ∷ Make m.Equation ∷ [])
 class_atom_row n t = None
 
+-- class = ( "Π" | "∀" | "λ" | "ι" ) NAME ":" class "." class | catom { atom | "·" catom } [ ( "➔" | "➾" ) class ]; both parts of `ι`, and the
+-- part of `∀` and of `λ`, are types, and the part of `Π` is a kind where its domain is one
 abbrev pub class_row : ℕ → Option ℕ → TokenKind → Row
 class_row n left k.BigPi = Some (counted left ++ binding ∷ sign k.Colon ∷ Read (Class n any None) ∷ sign k.Period ∷ Read (Class n as_domain (one_less left)) ∷ Test_ Fits ∷ Make m.Product ∷ [])
 class_row n left k.ForAll = Some (counted left ++ binding ∷ sign k.Colon ∷ Read (Class n any None) ∷ sign k.Period ∷ Read (Class n of_type (one_less left)) ∷ Test_ IsType ∷ Make m.Forall ∷ [])
@@ -137,10 +149,12 @@ class_row n left k.Lambda = Some (binding ∷ sign k.Colon ∷ Read (Class n any
 class_row n left k.Iota = Some (binding ∷ sign k.Colon ∷ Read (Class n of_type None) ∷ Test_ IsType ∷ sign k.Period ∷ Read (Class n of_type None) ∷ Test_ IsType ∷ Make m.Iota ∷ [])
 class_row n left t = class_atom_row n t ▸ (Read (TypeArguments n) ∷ Read (MaybeArrow n left) ∷ [])
 
+-- an argument of a type, behind the tests that the head is a type and that nesting may rise
 abbrev pub type_argument_row : ℕ → TokenKind → Row
 type_argument_row n k.MiddleDot = Some (Read (ClassAtom n wanted.Ty) ∷ Test_ IsType ∷ Make m.On ∷ [])
 type_argument_row n t = whole_atom_row n t ▸ (Make m.At ∷ [])
 
+-- behind a class: ( "➔" | "➾" ) class; behind `➾` a type stands
 abbrev pub arrow_row : ℕ → Option ℕ → TokenKind → Row
 arrow_row n left k.Arrow = Some (counted left ++ Read (Class n as_domain (one_less left)) ∷ Test_ Fits ∷ Make m.Arrow ∷ [])
 arrow_row n left k.ErasedArrow = Some (counted left ++ Read (Class n of_type (one_less left)) ∷ Test_ IsType ∷ Make m.ErasedArrow ∷ [])
@@ -148,50 +162,63 @@ arrow_row n left t = None
 
 -- ---- options and repetitions
 
+-- { NAME | "-" NAME | "·" NAME } of a branch
 abbrev pub pattern_row : TokenKind → Row
 pattern_row k.Name = Some (Make (m.APattern Kept) ∷ Read Patterns ∷ [])
 pattern_row k.Minus = Some (binding ∷ Make (m.APattern Erased) ∷ Read Patterns ∷ [])
 pattern_row k.MiddleDot = Some (binding ∷ Make (m.APattern OfType) ∷ Read Patterns ∷ [])
 pattern_row t = None
 
+-- { ".1" | ".2" }; each makes a part of what is before it
 abbrev pub projection_row : TokenKind → Row
 projection_row k.First = Some (Make m.Fst ∷ Test_ IsShallow ∷ Read Projections ∷ [])
 projection_row k.Second = Some (Make m.Snd ∷ Test_ IsShallow ∷ Read Projections ∷ [])
 projection_row t = None
 
+-- branch = "|" name { NAME | "-" NAME | "·" NAME } "➔" term
 abbrev pub branch_row : ℕ → TokenKind → Row
 branch_row n t = only (same_kind k.Bar t) (binding ∷ Read Owner ∷ Make m.Named ∷ Make m.NoPatterns ∷ Read Patterns ∷ sign k.Arrow ∷ Read (Term n) ∷ Make m.ABranch ∷ Read (Branches n) ∷ [])
 
+-- [ "#" NAME ]
 abbrev pub owner_row : TokenKind → Row
 owner_row t = only (same_kind k.Hash t) (binding ∷ Make m.Given ∷ [])
 
+-- [ ":" class ] of `λ` and `Λ`
 abbrev pub annotation_row : ℕ → Need → TokenKind → Row
 annotation_row n of_type t = only (same_kind k.Colon t) (Read (Class n of_type None) ∷ Test_ IsType ∷ Make m.Given ∷ [])
 annotation_row n need t = only (same_kind k.Colon t) (Read (Class n any None) ∷ Make m.Given ∷ [])
 
+-- [ "<" term ">" ]
 abbrev pub side_row : ℕ → TokenKind → Row
 side_row n t = only (same_kind k.Less t) (Read (Term n) ∷ sign k.Greater ∷ Make m.Enclosed ∷ [])
 
+-- [ "{" term "}" ]
 abbrev pub kept_row : ℕ → TokenKind → Row
 kept_row n t = only (same_kind k.OpenBrace t) (Read (Term n) ∷ sign k.CloseBrace ∷ Make m.Enclosed ∷ [])
 
+-- [ "@" catom ]
 abbrev pub motive_row : ℕ → TokenKind → Row
 motive_row n t = only (same_kind k.At t) (Read (ClassAtom n wanted.Ty) ∷ Test_ IsType ∷ Make m.Given ∷ [])
 
 -- ---- items; nesting begins with the outermost term or class
 
+-- with the outermost term or class itself, which nests nothing, this is one more than nesting may rise
 abbrev pub outermost : ℕ
 outermost = 257
 
+-- { "import" NAME "." }
 abbrev pub import_row : TokenKind → Row
 import_row t = only (same_kind k.Import t) (binding ∷ Test_ IsImportable ∷ sign k.Period ∷ Make m.AnImport ∷ Read Imports ∷ [])
 
+-- { "(" NAME ":" class ")" } of a datatype
 abbrev pub parameter_row : ℕ → TokenKind → Row
 parameter_row n t = only (same_kind k.Open t) (Test_ (HasRoomFor many.Parameters n) ∷ binding ∷ sign k.Colon ∷ Read (Class outermost any None) ∷ sign k.Close ∷ Make m.AParameter ∷ Read (Parameters (pred n)) ∷ [])
 
+-- { "|" NAME ":" type } of a datatype
 abbrev pub constructor_row : ℕ → TokenKind → Row
 constructor_row n t = only (same_kind k.Bar t) (Test_ (HasRoomFor many.Constructors n) ∷ binding ∷ sign k.Colon ∷ Read (Class outermost of_type (Some 32)) ∷ Test_ IsType ∷ Test_ HasFewArguments ∷ Make m.AConstructor ∷ Read (Constructors (pred n)) ∷ [])
 
+-- { item }: a definition, or a datatype
 abbrev pub item_row : TokenKind → Row
 item_row k.Name = Some (sign k.Colon ∷ Read (Class outermost any None) ∷ sign k.Is ∷ Read Body ∷ Test_ IsType ∷ sign k.Period ∷ Make m.AnItem ∷ Read Items ∷ [])
 item_row k.Data = Some (binding ∷ Make m.NoParameters ∷ Read (Parameters 16) ∷ sign k.Colon ∷ sign k.Star ∷ sign k.Is ∷ Make m.NoConstructors ∷ Read (Constructors 64) ∷ sign k.Period ∷ Make m.ADatatype ∷ Read Items ∷ [])
@@ -206,6 +233,7 @@ abbrev pub body_is_type : {A : Type 0} → List (Value A) → Bool
 body_is_type (token t ∷ part f c ∷ vs) = is_kind c
 body_is_type vs = false
 
+-- what stands behind the `=`: a type where the item's class is a kind, else a term
 abbrev pub body_row : Bool → TokenKind → Row
 body_row true t = class_row (pred outermost) None t
 body_row false t = term_row (pred outermost) t
@@ -252,6 +280,7 @@ row (Constructors n) vs t = constructor_row n t
 pub data Leaving : Type 0 where
   MustStand LeftOut NotGiven Ends : Leaving
 
+-- what comes of a symbol that does not begin
 abbrev pub leaving : Symbol → Leaving
 leaving Owner = LeftOut
 leaving (Side n) = LeftOut

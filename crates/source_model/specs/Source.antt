@@ -40,6 +40,7 @@ pub record Pattern (B : Type 0) : Type 0 where
   pub span : Span
   pub binder : B
 
+-- a part of a module: a name as it is used, and the forms; branches are a chain, each with those that follow it
 pub data Source (B N : Type 0) : Type 0 where
   use_of : Span → N → Source B N
   leaf : Span → SourceLeaf → Source B N
@@ -55,6 +56,7 @@ pub data Source (B N : Type 0) : Type 0 where
 pattern abbrev pub none : {B N : Type 0} → Span → Source B N
 none s = leaf s none_of
 
+-- the place of what is left out
 abbrev pub nowhere : Span
 nowhere = record { from = 0; to = 0 }
 
@@ -86,12 +88,15 @@ pub record NameUse (A : Type 0) : Type 0 where
   pub owner : Option A
   pub name : A
 
+-- a part whose binders are names or left out
 abbrev pub Tree : Type 0 → Type 0
 Tree A = Source (Option A) (NameUse A)
 
+-- an item with such parts
 abbrev pub Item : Type 0 → Type 0
 Item A = SourceItem A (Option A) (NameUse A)
 
+-- a module: its name, its imports with their places, and its items in order
 pub record Module (A : Type 0) : Type 0 where
   pub name : A
   pub imports : List (A × Span)

@@ -8,6 +8,7 @@ use Rattle.source_model.specs.Source.{Span}
 use Rattle.source_model.specs.declared.token.TokenKind.{TokenKind}
 use Rattle.source_model.specs.declared.token.TokenKind.TheVariants.{Lambda, BigLambda, BigPi, Iota, Beta, Rho, Phi, Delta, Chi, FinalSigma, Mu, Sigma, Star, ForAll, Arrow, ErasedArrow, Equal, MiddleDot, First, Second, Period, Colon, Is, Open, Close, OpenBracket, CloseBracket, OpenBrace, CloseBrace, Less, Greater, Comma, Bar, Minus, At, Hash, Module, Import, Data, Name}
 
+-- a kind of token, and the bytes where it stands
 pub record Token : Type 0 where
   pub kind : TokenKind
   pub span : Span
@@ -90,6 +91,7 @@ abbrev pub word_of : List TokenKind → List ℕ → TokenKind
 word_of [] w = Name
 word_of (k ∷ ks) w = if bytes_eq w (spelling k) then k else word_of ks w
 
+-- one of these characters
 abbrev pub is_among : List ℕ → ℕ → Bool
 is_among [] c = false
 is_among (d ∷ ds) c = (c == d) || is_among ds c
@@ -98,9 +100,11 @@ is_among (d ∷ ds) c = (c == d) || is_among ds c
 abbrev pub is_reserved : ℕ → Bool
 is_reserved c = is_among (codes "λΛΠιβρφδχςμσ·") c
 
+-- a name begins with a letter, as Unicode classes them, or `_`
 abbrev pub starts_name : ℕ → Bool
 starts_name c = (is_xid_start c || is_among (codes "_") c) && not (is_reserved c)
 
+-- it goes on with a letter, a digit or a mark, as Unicode classes them, `_`, `/` or `'`
 abbrev pub continues_name : ℕ → Bool
 continues_name c = (is_xid_continue c || is_among (codes "/'") c) && not (is_reserved c)
 
@@ -113,6 +117,7 @@ unfoldable pub run : (ℕ → Bool) → List ℕ → List ℕ
 run passes [] = []
 run passes (c ∷ cs) = if passes c then c ∷ run passes cs else []
 
+-- with one more character in front
 abbrev pub before : ℕ → Option (List ℕ) → Option (List ℕ)
 before c None = None
 before c (Some cs) = Some (c ∷ cs)
@@ -137,13 +142,16 @@ abbrev pub comment : Option (List ℕ) → Lexeme
 comment None = Unclosed
 comment (Some cs) = Gap cs
 
+-- a name or one of the words, or nothing begins so
 abbrev pub name_or_stray : ℕ → List ℕ → Lexeme
 name_or_stray c cs = if starts_name c then Word (word_of words (encode_utf8_all (c ∷ run continues_name cs))) (run continues_name cs) else Stray
 
+-- the sign, or else this
 abbrev pub sign_or : Option TokenKind → Lexeme → Lexeme
 sign_or None other = other
 sign_or (Some k) other = Word k (drop 1 (spelling k))
 
+-- what stands at the front: white space, a comment, a sign, a name, or nothing that may stand there
 unfoldable pub lexeme : ℕ → List ℕ → Lexeme
 lexeme c cs =
     if is_white c then Gap []
@@ -151,6 +159,7 @@ lexeme c cs =
     else (if begins (codes "{-") (c ∷ cs) then comment (before 45 (through_close (drop 1 cs)))
     else sign_or (sign_of signs (c ∷ cs)) (name_or_stray c cs)))
 
+-- the characters of a lexeme behind its first
 abbrev pub more : Lexeme → List ℕ
 more (Gap cs) = cs
 more (Word k cs) = cs
@@ -161,6 +170,7 @@ more Unclosed = []
 abbrev pub width : List ℕ → ℕ
 width cs = length (encode_utf8_all cs)
 
+-- one more token in front, where there is no fault
 abbrev pub with_token : Token → Result (List Token) TokenFault → Result (List Token) TokenFault
 with_token t (Ok ts) = Ok (t ∷ ts)
 with_token t (Err fault) = Err fault
