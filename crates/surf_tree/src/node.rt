@@ -352,12 +352,11 @@ impl Src {
         ensures { IfOk result (λ t. t ≡ term_tree (place span) form) }
     {
         if levels > MOST_LEVELS {
+            drop(form);
             return Err(NoMemory);
         }
-        match Rc::new(alloc, SrcNode { span, levels, form }) {
-            Ok(node) => Ok(Src { node }),
-            Err(_) => Err(NoMemory),
-        }
+        let node = Rc::new(alloc, SrcNode { span, levels, form })?;
+        Ok(Src { node })
     }
 }
 
@@ -409,12 +408,11 @@ impl SrcType {
         ensures { IfOk result (λ t. t ≡ type_tree (place span) form) }
     {
         if levels > MOST_LEVELS {
+            drop(form);
             return Err(NoMemory);
         }
-        match Rc::new(alloc, SrcTypeNode { span, levels, form }) {
-            Ok(node) => Ok(SrcType { node }),
-            Err(_) => Err(NoMemory),
-        }
+        let node = Rc::new(alloc, SrcTypeNode { span, levels, form })?;
+        Ok(SrcType { node })
     }
 }
 
@@ -466,12 +464,11 @@ impl SrcKind {
         ensures { IfOk result (λ t. t ≡ kind_tree (place span) form) }
     {
         if levels > MOST_LEVELS {
+            drop(form);
             return Err(NoMemory);
         }
-        match Rc::new(alloc, SrcKindNode { span, levels, form }) {
-            Ok(node) => Ok(SrcKind { node }),
-            Err(_) => Err(NoMemory),
-        }
+        let node = Rc::new(alloc, SrcKindNode { span, levels, form })?;
+        Ok(SrcKind { node })
     }
 }
 
