@@ -330,16 +330,6 @@ impl Src {
         self.node.levels
     }
 
-    /// The same node once more.
-    pub(crate) fn share(&self) -> Result<Src, NoMemory>
-        ensures same { IfOk result (λ t. t ≡ self.now) }
-    {
-        match self.node.clone() {
-            Ok(node) => Ok(Src { node }),
-            Err(_) => Err(NoMemory),
-        }
-    }
-
     pub(crate) fn make(
         alloc: Global,
         span: Span,
@@ -384,16 +374,6 @@ impl SrcType {
         ensures there { is_none self.now ≡ false }
     {
         self.node.levels
-    }
-
-    /// The same node once more.
-    pub(crate) fn share(&self) -> Result<SrcType, NoMemory>
-        ensures same { IfOk result (λ t. t ≡ self.now) }
-    {
-        match self.node.clone() {
-            Ok(node) => Ok(SrcType { node }),
-            Err(_) => Err(NoMemory),
-        }
     }
 
     pub(crate) fn make(
@@ -442,16 +422,6 @@ impl SrcKind {
         self.node.levels
     }
 
-    /// The same node once more.
-    pub(crate) fn share(&self) -> Result<SrcKind, NoMemory>
-        ensures same { IfOk result (λ t. t ≡ self.now) }
-    {
-        match self.node.clone() {
-            Ok(node) => Ok(SrcKind { node }),
-            Err(_) => Err(NoMemory),
-        }
-    }
-
     pub(crate) fn make(
         alloc: Global,
         span: Span,
@@ -478,10 +448,8 @@ impl Clone for Src {
     ghost is_clone = { λ t copy. copy ≡ t };
 
     fn clone(&self) -> Result<Src, AllocError> {
-        match self.share() {
-            Ok(copy) => Ok(copy),
-            Err(NoMemory) => Err(AllocError),
-        }
+        let node = self.node.clone()?;
+        Ok(Src { node })
     }
 }
 
@@ -491,10 +459,8 @@ impl Clone for SrcType {
     ghost is_clone = { λ t copy. copy ≡ t };
 
     fn clone(&self) -> Result<SrcType, AllocError> {
-        match self.share() {
-            Ok(copy) => Ok(copy),
-            Err(NoMemory) => Err(AllocError),
-        }
+        let node = self.node.clone()?;
+        Ok(SrcType { node })
     }
 }
 
@@ -504,9 +470,7 @@ impl Clone for SrcKind {
     ghost is_clone = { λ t copy. copy ≡ t };
 
     fn clone(&self) -> Result<SrcKind, AllocError> {
-        match self.share() {
-            Ok(copy) => Ok(copy),
-            Err(NoMemory) => Err(AllocError),
-        }
+        let node = self.node.clone()?;
+        Ok(SrcKind { node })
     }
 }

@@ -80,7 +80,7 @@ impl Src {
             SrcForm::Lam {
                 var,
                 ty,
-                part: part.share()?,
+                part: part.clone()?,
             },
         )
     }
@@ -103,7 +103,7 @@ impl Src {
             SrcForm::Elam {
                 var,
                 class,
-                part: part.share()?,
+                part: part.clone()?,
             },
         )
     }
@@ -118,8 +118,8 @@ impl Src {
             span,
             levels,
             SrcForm::App {
-                head: head.share()?,
-                arg: arg.share()?,
+                head: head.clone()?,
+                arg: arg.clone()?,
             },
         )
     }
@@ -134,8 +134,8 @@ impl Src {
             span,
             levels,
             SrcForm::Eapp {
-                head: head.share()?,
-                arg: arg.share()?,
+                head: head.clone()?,
+                arg: arg.clone()?,
             },
         )
     }
@@ -150,8 +150,8 @@ impl Src {
             span,
             levels,
             SrcForm::Tapp {
-                head: head.share()?,
-                arg: arg.share()?,
+                head: head.clone()?,
+                arg: arg.clone()?,
             },
         )
     }
@@ -166,8 +166,8 @@ impl Src {
             span,
             levels,
             SrcForm::Pair {
-                left: left.share()?,
-                right: right.share()?,
+                left: left.clone()?,
+                right: right.clone()?,
             },
         )
     }
@@ -182,7 +182,7 @@ impl Src {
             span,
             levels,
             SrcForm::Fst {
-                part: part.share()?,
+                part: part.clone()?,
             },
         )
     }
@@ -197,7 +197,7 @@ impl Src {
             span,
             levels,
             SrcForm::Snd {
-                part: part.share()?,
+                part: part.clone()?,
             },
         )
     }
@@ -232,10 +232,10 @@ impl Src {
             span,
             levels,
             SrcForm::Rho {
-                proof: proof.share()?,
+                proof: proof.clone()?,
                 var,
-                guide: guide.share()?,
-                part: part.share()?,
+                guide: guide.clone()?,
+                part: part.clone()?,
             },
         )
     }
@@ -256,9 +256,9 @@ impl Src {
             span,
             levels,
             SrcForm::Phi {
-                proof: proof.share()?,
-                part: part.share()?,
-                kept: kept.share()?,
+                proof: proof.clone()?,
+                part: part.clone()?,
+                kept: kept.clone()?,
             },
         )
     }
@@ -279,7 +279,7 @@ impl Src {
             levels,
             SrcForm::Delta {
                 ty,
-                proof: proof.share()?,
+                proof: proof.clone()?,
             },
         )
     }
@@ -294,8 +294,8 @@ impl Src {
             span,
             levels,
             SrcForm::Chi {
-                ty: ty.share()?,
-                part: part.share()?,
+                ty: ty.clone()?,
+                part: part.clone()?,
             },
         )
     }
@@ -310,7 +310,7 @@ impl Src {
             span,
             levels,
             SrcForm::Flip {
-                proof: proof.share()?,
+                proof: proof.clone()?,
             },
         )
     }
@@ -337,7 +337,7 @@ impl Src {
             levels,
             SrcForm::Mu {
                 var,
-                part: part.share()?,
+                part: part.clone()?,
                 motive,
                 branches,
             },
@@ -364,7 +364,7 @@ impl Src {
             span,
             levels,
             SrcForm::Sigma {
-                part: part.share()?,
+                part: part.clone()?,
                 motive,
                 branches,
             },

@@ -34,8 +34,8 @@ impl SrcType {
             levels,
             SrcTypeForm::Pi {
                 var,
-                domain: domain.share()?,
-                part: part.share()?,
+                domain: domain.clone()?,
+                part: part.clone()?,
             },
         )
     }
@@ -57,8 +57,8 @@ impl SrcType {
             levels,
             SrcTypeForm::All {
                 var,
-                domain: domain.share()?,
-                part: part.share()?,
+                domain: domain.clone()?,
+                part: part.clone()?,
             },
         )
     }
@@ -80,8 +80,8 @@ impl SrcType {
             levels,
             SrcTypeForm::Allt {
                 var,
-                domain: domain.share()?,
-                part: part.share()?,
+                domain: domain.clone()?,
+                part: part.clone()?,
             },
         )
     }
@@ -103,8 +103,8 @@ impl SrcType {
             levels,
             SrcTypeForm::Tlam {
                 var,
-                domain: domain.share()?,
-                part: part.share()?,
+                domain: domain.clone()?,
+                part: part.clone()?,
             },
         )
     }
@@ -126,8 +126,8 @@ impl SrcType {
             levels,
             SrcTypeForm::Xtlam {
                 var,
-                domain: domain.share()?,
-                part: part.share()?,
+                domain: domain.clone()?,
+                part: part.clone()?,
             },
         )
     }
@@ -142,8 +142,8 @@ impl SrcType {
             span,
             levels,
             SrcTypeForm::At {
-                head: head.share()?,
-                arg: arg.share()?,
+                head: head.clone()?,
+                arg: arg.clone()?,
             },
         )
     }
@@ -158,8 +158,8 @@ impl SrcType {
             span,
             levels,
             SrcTypeForm::On {
-                head: head.share()?,
-                arg: arg.share()?,
+                head: head.clone()?,
+                arg: arg.clone()?,
             },
         )
     }
@@ -181,8 +181,8 @@ impl SrcType {
             levels,
             SrcTypeForm::Iota {
                 var,
-                left: left.share()?,
-                right: right.share()?,
+                left: left.clone()?,
+                right: right.clone()?,
             },
         )
     }
@@ -197,8 +197,8 @@ impl SrcType {
             span,
             levels,
             SrcTypeForm::Eq {
-                left: left.share()?,
-                right: right.share()?,
+                left: left.clone()?,
+                right: right.clone()?,
             },
         )
     }
@@ -229,8 +229,8 @@ impl SrcKind {
             levels,
             SrcKindForm::Kpi {
                 var,
-                domain: domain.share()?,
-                part: part.share()?,
+                domain: domain.clone()?,
+                part: part.clone()?,
             },
         )
     }
@@ -252,8 +252,8 @@ impl SrcKind {
             levels,
             SrcKindForm::Kpit {
                 var,
-                domain: domain.share()?,
-                part: part.share()?,
+                domain: domain.clone()?,
+                part: part.clone()?,
             },
         )
     }
