@@ -1,0 +1,9 @@
+pub mod Source
+pub mod Heights
+pub mod SurfaceTokens
+pub mod TokenParts
+pub mod Grammar
+pub mod Rows
+pub mod Made
+pub mod Parsing
+pub mod SurfaceText
