@@ -5,3 +5,6 @@ pub mod FirstFault
 pub mod Reading
 pub mod Said
 pub mod Turns
+pub mod Shapes
+pub mod RowShapes
+pub mod Whole

@@ -11,7 +11,10 @@ mod token;
 mod token_laws;
 mod wanted;
 
-pub use grammar_laws::{one_module, read_is_said, reading_goes_by_rows, said_is_faultless};
+pub use grammar_laws::{
+    module_is_said_or_faulty, one_module, read_is_said, reading_goes_by_rows,
+    said_module_is_faultless,
+};
 pub use token::TokenKind;
 pub use token_laws::{token_fault_is_first, tokens_are_of_their_text};
 pub use wanted::Wanted;
