@@ -7,15 +7,14 @@ ghost use Rattle.cdle_model.specs.Erasure.{erased};
 ghost use Rattle.cdle_model.specs.Forms.{ap, fn};
 ghost use Rattle.cdle_model.specs.Trees.{IsBelow, Tree, put, shift, var};
 ghost use Rattle.core_tree.specs.Nodes.{PutGives};
-ghost use Rattle.core_view.specs.Parts.{part_sort, part_tree};
+ghost use Rattle.core_tree.specs.Parts.{part_sort, part_tree};
 ghost use Rattle.core_view.specs.Passed.{renumbered};
 
 use crate::erasure::{Erased, view};
-use crate::part::Part;
 use crate::passed::Passed;
 use crate::whole::{again, identity};
 use cdle_model::NoMemory;
-use core_tree::{Pure, PureForm, PutStop, Term};
+use core_tree::{Part, Pure, PureForm, PutStop, Term};
 use std::alloc::Global;
 
 /// The term's erasure with the part in the place of the variable `under`, and the variables above it lowered.

@@ -11,12 +11,11 @@ ghost use Rattle.core_view.specs.Passed.{renumbered};
 ghost use Rattle.core_view.specs.Readings.{IsRead, IsTop, node_tree, pure_view_tree, reading_tree};
 
 use crate::erasure::{Erased, view};
-use crate::part::Part;
 use crate::passed::Passed;
 use crate::pure_put::{put_built, put_number, put_written};
 use crate::whole::{again, whole_built, whole_written};
 use cdle_model::NoMemory;
-use core_tree::{Pure, PureForm, PutStop, Term};
+use core_tree::{Part, Pure, PureForm, PutStop, Term};
 use std::alloc::{AllocError, Global};
 use std::marker::Model;
 use std::rc::Rc;
