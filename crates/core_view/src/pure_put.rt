@@ -45,14 +45,13 @@ pub(crate) fn put_written(
             ap_of(alloc, head, arg)
         }
         Erased::Pass(inner) => put_written(alloc, inner, passed, from, under, part),
-        Erased::Under(inner) => put_written(
-            alloc,
-            inner,
-            &passed.erased(alloc, from)?,
-            0,
-            under,
-            part,
-        ),
+        Erased::Under(inner) => {
+            let outside = passed.erased(alloc, from)?;
+            let tree = put_written(alloc, inner, &outside, 0, under, part);
+            // A call drops it in one step of the proof, where the end of the block would in one for each of its forms.
+            drop(outside);
+            tree
+        }
         Erased::Pure(kept) => put_built(alloc, kept, passed, from, under, part),
         Erased::Identity => shallow(identity(alloc)),
     }
