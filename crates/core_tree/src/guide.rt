@@ -4,10 +4,12 @@ ghost use Rattle.cdle_model.specs.Depth.{depth, free_bound};
 ghost use Rattle.cdle_model.specs.Classes.{guides, guide_kinds, IsOf};
 ghost use Rattle.core_tree.specs.Forms.{guide_tree, guide_kind_tree};
 ghost use Rattle.core_tree.specs.Nodes.{IsOpenNode};
+ghost use Rattle.core_tree.specs.Products.{product_tree};
 
+use crate::product::Product;
 use crate::pure::Pure;
 use crate::sharing::count_open;
-use crate::stack::refuse_deep;
+use crate::stack::DEEPEST;
 use cdle_model::NoMemory;
 use std::alloc::{AllocError, Global};
 use std::marker::Model;
@@ -175,10 +177,13 @@ impl Guide {
 
     /// The node of that form.
     pub(crate) fn of(alloc: Global, form: GuideForm) -> Result<Guide, NoMemory>
-        requires { depth (guide_tree form) ≤ 65535 }
         ensures { IfOk result (λ t. t ≡ guide_tree form) }
     {
         let depth = form.depth();
+        if depth > DEEPEST {
+            drop(form);
+            return Err(NoMemory);
+        }
         let free = form.free();
         let nodes = count_open(free, form.nodes());
         let node = Rc::new(
@@ -190,9 +195,23 @@ impl Guide {
                 form,
             },
         )?;
-        let made = Guide { node };
-        refuse_deep(depth)?;
-        Ok(made)
+        Ok(Guide { node })
+    }
+
+    /// The node of that product of the domain and the part.
+    pub(crate) fn product(
+        alloc: Global,
+        product: Product,
+        domain: Guide,
+        part: Guide,
+    ) -> Result<Guide, NoMemory>
+        ensures { IfOk result (λ t. t ≡ product_tree product domain part) }
+    {
+        match product {
+            Product::Pi => Guide::of(alloc, GuideForm::Pi(domain, part)),
+            Product::All => Guide::of(alloc, GuideForm::All(domain, part)),
+            Product::Iota => Guide::of(alloc, GuideForm::Iota(domain, part)),
+        }
     }
 }
 
@@ -252,10 +271,13 @@ impl GuideKind {
 
     /// The node of that form.
     pub(crate) fn of(alloc: Global, form: GuideKindForm) -> Result<GuideKind, NoMemory>
-        requires { depth (guide_kind_tree form) ≤ 65535 }
         ensures { IfOk result (λ t. t ≡ guide_kind_tree form) }
     {
         let depth = form.depth();
+        if depth > DEEPEST {
+            drop(form);
+            return Err(NoMemory);
+        }
         let free = form.free();
         let nodes = count_open(free, form.nodes());
         let node = Rc::new(
@@ -267,9 +289,7 @@ impl GuideKind {
                 form,
             },
         )?;
-        let made = GuideKind { node };
-        refuse_deep(depth)?;
-        Ok(made)
+        Ok(GuideKind { node })
     }
 }
 

@@ -6,14 +6,16 @@
 //! It stands on `cdle_model` alone.
 #![tactic(auto)]
 
+mod change;
 mod erase;
 mod faults;
 mod guide;
+mod guide_change;
 mod guide_forms;
-mod guide_put;
-mod guide_shift;
+mod guide_kind_change;
 mod items;
 mod part;
+mod product;
 mod pure;
 mod pure_change;
 mod sharing;
@@ -27,6 +29,8 @@ pub use cdle_model::NoMemory;
 pub use faults::{Checked, CoreFault, Kept, Path, Why};
 pub use guide::{Guide, GuideForm, GuideKind, GuideKindForm};
 pub use items::{CoreFile, CoreItem, CoreItems};
+pub use part::Part;
+pub use product::Product;
 pub use pure::{Pure, PureForm};
 pub use stop::PutStop;
 pub use term::{Kind, KindForm, Term, TermForm, Ty, TyForm};

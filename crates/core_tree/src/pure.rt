@@ -13,6 +13,9 @@ use std::alloc::{AllocError, Global};
 use std::marker::Model;
 use std::rc::Rc;
 
+/// The deepest pure term that is given.
+const DEEPEST: u32 = 65_535;
+
 /// A pure term. A clone shares the node.
 #[cycle(pure)]
 #[derive(Drop)]
@@ -157,10 +160,13 @@ impl Pure {
 
     /// The node of that form.
     pub(crate) fn of(alloc: Global, form: PureForm) -> Result<Pure, NoMemory>
-        requires { depth (pure_tree form) ≤ 65535 }
         ensures { IfOk result (λ t. t ≡ pure_tree form) }
     {
         let depth = form.depth();
+        if depth > DEEPEST {
+            drop(form);
+            return Err(NoMemory);
+        }
         let free = form.free();
         let nodes = count_open(free, form.nodes());
         let node = Rc::new(

@@ -24,12 +24,3 @@ pub(crate) fn count_open(free: u64, parts: u64) -> u64 {
         parts.saturating_add(1)
     }
 }
-
-/// Refuses a change at and above the variable `from` that would build too many nodes.
-pub(crate) fn refuse_large(nodes: u64, free: u64, from: u64) -> Result<(), NoMemory> {
-    if free > from && nodes > MOST_NODES {
-        Err(NoMemory)
-    } else {
-        Ok(())
-    }
-}

@@ -6,15 +6,13 @@ ghost use Rattle.cdle_model.specs.Erasure.{erased};
 ghost use Rattle.cdle_model.specs.Forms.{allt, at_, eq, kpi, kpit, on};
 ghost use Rattle.cdle_model.specs.Trees.{IsBelow, Tree, put, shift, var};
 ghost use Rattle.core_tree.specs.Nodes.{PutGives};
-ghost use Rattle.core_view.specs.Parts.{part_sort, part_tree};
-ghost use Rattle.core_view.specs.Products.{product_tree};
+ghost use Rattle.core_tree.specs.Parts.{part_sort, part_tree};
+ghost use Rattle.core_tree.specs.Products.{product_tree};
 
-use crate::part::Part;
 use crate::passed::Passed;
-use crate::product::Product;
 use crate::pure_put::{put_built, put_written};
 use cdle_model::NoMemory;
-use core_tree::{Guide, GuideKind, Kind, KindForm, Pure, PutStop, Term, Ty, TyForm};
+use core_tree::{Guide, GuideKind, Kind, KindForm, Part, Product, Pure, PutStop, Term, Ty, TyForm};
 use std::alloc::Global;
 
 /// The type's erasure with the part in the place of the variable `under`, and the variables above it lowered.

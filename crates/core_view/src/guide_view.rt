@@ -7,17 +7,16 @@ ghost use Rattle.cdle_model.specs.Forms.{allt, at_, eq, on};
 ghost use Rattle.cdle_model.specs.Trees.{IsBelow, put};
 ghost use Rattle.cdle_model.specs.declared.grammar.Sort.TheVariants.{OfTerm, OfType};
 ghost use Rattle.core_tree.specs.Nodes.{PutGives};
-ghost use Rattle.core_view.specs.Parts.{part_sort, part_tree};
-ghost use Rattle.core_view.specs.Products.{product_tree};
+ghost use Rattle.core_tree.specs.Parts.{part_sort, part_tree};
+ghost use Rattle.core_tree.specs.Products.{product_tree};
 ghost use Rattle.core_view.specs.Readings.{IsGuideTop, guide_view_tree, kind_view_tree};
 
 use crate::guide_put::put_type;
-use crate::part::Part;
-use crate::product::Product;
 use crate::pure_view::PureView;
 use cdle_model::NoMemory;
 use core_tree::{
-    Guide, GuideForm, GuideKind, GuideKindForm, Kind, KindForm, Pure, PutStop, Term, Ty, TyForm,
+    Guide, GuideForm, GuideKind, GuideKindForm, Kind, KindForm, Part, Product, Pure, PutStop, Term,
+    Ty, TyForm,
 };
 use std::alloc::Global;
 use std::marker::Model;

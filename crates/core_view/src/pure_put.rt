@@ -7,15 +7,14 @@ ghost use Rattle.cdle_model.specs.Erasure.{erased};
 ghost use Rattle.cdle_model.specs.Forms.{ap, fn};
 ghost use Rattle.cdle_model.specs.Trees.{IsBelow, Tree, put, shift, var};
 ghost use Rattle.core_tree.specs.Nodes.{PutGives};
-ghost use Rattle.core_view.specs.Parts.{part_sort, part_tree};
+ghost use Rattle.core_tree.specs.Parts.{part_sort, part_tree};
 ghost use Rattle.core_view.specs.Passed.{renumbered};
 
 use crate::erasure::{Erased, view};
-use crate::part::Part;
 use crate::passed::Passed;
 use crate::whole::{again, identity};
 use cdle_model::NoMemory;
-use core_tree::{Pure, PureForm, PutStop, Term};
+use core_tree::{Part, Pure, PureForm, PutStop, Term};
 use std::alloc::Global;
 
 /// The term's erasure with the part in the place of the variable `under`, and the variables above it lowered.
@@ -46,14 +45,13 @@ pub(crate) fn put_written(
             ap_of(alloc, head, arg)
         }
         Erased::Pass(inner) => put_written(alloc, inner, passed, from, under, part),
-        Erased::Under(inner) => put_written(
-            alloc,
-            inner,
-            &passed.erased(alloc, from)?,
-            0,
-            under,
-            part,
-        ),
+        Erased::Under(inner) => {
+            let outside = passed.erased(alloc, from)?;
+            let tree = put_written(alloc, inner, &outside, 0, under, part);
+            // A call drops it in one step of the proof, where the end of the block would in one for each of its forms.
+            drop(outside);
+            tree
+        }
         Erased::Pure(kept) => put_built(alloc, kept, passed, from, under, part),
         Erased::Identity => shallow(identity(alloc)),
     }

@@ -4,19 +4,18 @@ ghost use Rattle.cdle_model.specs.Depth.{depth};
 ghost use Rattle.cdle_model.specs.Classes.{IsOf, UsedAs, pure_terms};
 ghost use Rattle.cdle_model.specs.Erasure.{HasErasure, erased};
 ghost use Rattle.cdle_model.specs.Forms.{ap, fn};
-ghost use Rattle.cdle_model.specs.Trees.{IsBelow, put, shift, var};
+ghost use Rattle.cdle_model.specs.Trees.{IsBelow, Tree, put, shift, var};
 ghost use Rattle.cdle_model.specs.declared.grammar.Sort.TheVariants.{OfTerm};
 ghost use Rattle.core_tree.specs.Nodes.{PutGives};
 ghost use Rattle.core_view.specs.Passed.{renumbered};
 ghost use Rattle.core_view.specs.Readings.{IsRead, IsTop, node_tree, pure_view_tree, reading_tree};
 
 use crate::erasure::{Erased, view};
-use crate::part::Part;
 use crate::passed::Passed;
 use crate::pure_put::{put_built, put_number, put_written};
 use crate::whole::{again, whole_built, whole_written};
 use cdle_model::NoMemory;
-use core_tree::{Pure, PureForm, PutStop, Term};
+use core_tree::{Part, Pure, PureForm, PutStop, Term};
 use std::alloc::{AllocError, Global};
 use std::marker::Model;
 use std::rc::Rc;
@@ -472,7 +471,13 @@ fn written_form(alloc: Global, term: &Term, passed: &Passed) -> Result<PureViewF
             )
         }
         Erased::Pass(part) => written_form(alloc, part, passed),
-        Erased::Under(part) => written_form(alloc, part, &passed.erased(alloc, 0)?),
+        Erased::Under(part) => {
+            let outside = passed.erased(alloc, 0)?;
+            let form = written_form(alloc, part, &outside);
+            // A call drops it in one step of the proof, where the end of the block would in one for each of its forms.
+            drop(outside);
+            form
+        }
         Erased::Pure(kept) => built_form(alloc, kept, passed),
         Erased::Identity => Ok(PureViewForm::Function(PureView::variable(0))),
     }
@@ -522,9 +527,41 @@ fn ap_form(
     requires { IsRead (ap (renumbered 0 passed.now (node_tree head)) (renumbered 0 passed.now (node_tree arg))) }
     ensures { IfOk result (λ f. pure_view_tree f ≡ ap (renumbered 0 passed.now (node_tree head)) (renumbered 0 passed.now (node_tree arg))) }
 {
-    let head = read(alloc, head, passed.share()?)?;
-    let arg = read(alloc, arg, passed.share()?)?;
-    Ok(PureViewForm::Ap(head, arg))
+    // What is left at an early end is dropped by a call, which is one step of the proof.
+    match read_sharing(alloc, head, passed) {
+        Ok(head) => applied(head, read_sharing(alloc, arg, passed)),
+        Err(NoMemory) => {
+            drop(arg);
+            Err(NoMemory)
+        }
+    }
+}
+
+/// The application to what was read.
+fn applied(head: PureView, arg: Result<PureView, NoMemory>) -> Result<PureViewForm, NoMemory>
+    ensures { (t : Tree) → IfOk arg (λ a. a ≡ t) → IfOk result (λ f. pure_view_tree f ≡ ap head t) }
+{
+    match arg {
+        Ok(arg) => Ok(PureViewForm::Ap(head, arg)),
+        Err(NoMemory) => {
+            drop(head);
+            Err(NoMemory)
+        }
+    }
+}
+
+/// The same tree as `read` gives, where the places are shared.
+fn read_sharing(alloc: Global, node: PureNode, passed: &Passed) -> Result<PureView, NoMemory>
+    requires { IsRead (renumbered 0 passed.now (node_tree node)) }
+    ensures { IfOk result (λ t. t ≡ renumbered 0 passed.now (node_tree node)) }
+{
+    match passed.share() {
+        Ok(passed) => read(alloc, node, passed),
+        Err(NoMemory) => {
+            drop(node);
+            Err(NoMemory)
+        }
+    }
 }
 
 /// The tree that is read at the node, where these places were passed, or none were.

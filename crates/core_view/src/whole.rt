@@ -38,7 +38,13 @@ pub(crate) fn whole_written(
             ap_of(alloc, head, arg)
         }
         Erased::Pass(part) => whole_written(alloc, part, passed, from),
-        Erased::Under(part) => whole_written(alloc, part, &passed.erased(alloc, from)?, 0),
+        Erased::Under(part) => {
+            let outside = passed.erased(alloc, from)?;
+            let tree = whole_written(alloc, part, &outside, 0);
+            // A call drops it in one step of the proof, where the end of the block would in one for each of its forms.
+            drop(outside);
+            tree
+        }
         Erased::Pure(kept) => whole_built(alloc, kept, passed, from),
         Erased::Identity => identity(alloc),
     }

@@ -4,7 +4,7 @@ use Rattle.cdle_model.specs.Trees.{name, var}
 use Rattle.cdle_model.specs.Forms.{fn}
 use Rattle.cdle_model.specs.Classes.{with_use}
 use Rattle.cdle_model.specs.Erasure.{erased}
-use Rattle.core_view.specs.Parts.{part_sort, part_tree}
+use Rattle.core_tree.specs.Parts.{part_sort, part_tree}
 use Rattle.core_view.proofs.Parts.{apply_fits, function_used}
 use Rattle.core_view.proofs.Puts.{put_function, put_function_stops, put_apply, put_head_stops, put_arg_stops, put_name, put_identity}
 use Rattle.core_view.proofs.pure_put.+put_written.Goals as goal

@@ -1,6 +1,6 @@
 use Rattle.cdle_model.specs.Classes.{with_use}
 use Rattle.cdle_model.specs.Trees.{var}
-use Rattle.core_view.specs.Parts.{part_sort}
+use Rattle.core_tree.specs.Parts.{part_sort}
 use Rattle.core_view.specs.Passed.{renumbered}
 use Rattle.core_view.proofs.Parts.{fits_class}
 use Rattle.core_view.proofs.pure_put.put_variable.Goals as goal

@@ -4,7 +4,7 @@ use Rattle.cdle_model.specs.Forms.{fn, ap as apply_to}
 use Rattle.cdle_model.specs.Classes.{anything}
 use Rattle.cdle_model.specs.Depth.{depth}
 use Rattle.cdle_model.specs.Erasure.{erased}
-use Rattle.core_view.proofs.Erasures.{depth_erased}
+use Rattle.core_tree.proofs.Erasures.{depth_erased}
 use Rattle.core_view.proofs.Numbers.{renumbered_depth}
 use Rattle.core_view.proofs.Parts.{function_is, function_fits, apply_is, apply_fits, name_is, identity_is}
 use Rattle.core_view.proofs.whole.+whole_written.Goals as goal

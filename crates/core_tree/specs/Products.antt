@@ -1,8 +1,8 @@
--- The tree of a product of two types.
+-- The tree of a product of two guides.
 use Rattle.cdle_model.specs.Trees.{Tree}
 use Rattle.cdle_model.specs.Forms.{pi, all, iota}
-use Rattle.core_view.specs.declared.product.Product.{Product}
-use Rattle.core_view.specs.declared.product.Product.TheVariants.{Pi, All, Iota}
+use Rattle.core_tree.specs.declared.product.Product.{Product}
+use Rattle.core_tree.specs.declared.product.Product.TheVariants.{Pi, All, Iota}
 
 abbrev pub product_tree : Product → Tree → Tree → Tree
 product_tree Pi a b = pi a b

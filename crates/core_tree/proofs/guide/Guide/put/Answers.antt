@@ -1,0 +1,4 @@
+use Rattle.core_tree.proofs.guide.Guide.put.Goals as goal
+
+pub returns : goal.returns
+returns c = c.shallow.ensures _ c.change.ensures
