@@ -217,8 +217,11 @@ impl Guide {
         match change.guide() {
             Some(part) => {
                 refuse_too_deep(part.depth())?;
-                part.change(alloc, &Change::Raise(0, under), 0)
+                let raise = Change::Raise(0, under);
+                raise.refuse_large(part.nodes(), part.free())?;
+                part.change(alloc, &raise, 0)
             }
+            // Not reached: the puts ask that a pure term is put for a variable that is used as a term's, and none that stands here is.
             None => Err(PutStop::NoMemory),
         }
     }
