@@ -11,6 +11,7 @@ ghost use Rattle.core_tree.specs.Parts.{part_sort, part_tree};
 ghost use Rattle.core_tree.specs.Products.{product_tree};
 ghost use Rattle.core_view.specs.Readings.{IsGuideTop, guide_view_tree, kind_view_tree};
 
+use crate::both::both;
 use crate::guide_put::put_type;
 use crate::pure_view::PureView;
 use cdle_model::NoMemory;
@@ -308,8 +309,7 @@ fn written_product(product: Product, domain: &Ty, part: &Ty) -> Result<GuideView
     requires part { HasErasure part.now }
     ensures { IfOk result (λ f. guide_view_tree f ≡ product_tree product (erased domain.now) (erased part.now)) }
 {
-    let domain = GuideView::of_type(domain)?;
-    let part = GuideView::of_type(part)?;
+    let (domain, part) = both(GuideView::of_type(domain), GuideView::of_type(part))?;
     Ok(product_form(product, domain, part))
 }
 
@@ -318,8 +318,7 @@ fn written_allt(alloc: Global, domain: &Kind, part: &Ty) -> Result<GuideViewForm
     requires part { HasErasure part.now }
     ensures { IfOk result (λ f. guide_view_tree f ≡ allt (erased domain.now) (erased part.now)) }
 {
-    let domain = KindView::of_kind(alloc, domain)?;
-    let part = GuideView::of_type(part)?;
+    let (domain, part) = both(KindView::of_kind(alloc, domain), GuideView::of_type(part))?;
     Ok(GuideViewForm::Allt(domain, part))
 }
 
@@ -328,8 +327,7 @@ fn written_at(head: &Ty, arg: &Term) -> Result<GuideViewForm, NoMemory>
     requires arg { HasErasure arg.now }
     ensures { IfOk result (λ f. guide_view_tree f ≡ at_ (erased head.now) (erased arg.now)) }
 {
-    let head = GuideView::of_type(head)?;
-    let arg = PureView::of_term(arg)?;
+    let (head, arg) = both(GuideView::of_type(head), PureView::of_term(arg))?;
     Ok(GuideViewForm::At(head, arg))
 }
 
@@ -338,8 +336,7 @@ fn written_on(head: &Ty, arg: &Ty) -> Result<GuideViewForm, NoMemory>
     requires arg { HasErasure arg.now }
     ensures { IfOk result (λ f. guide_view_tree f ≡ on (erased head.now) (erased arg.now)) }
 {
-    let head = GuideView::of_type(head)?;
-    let arg = GuideView::of_type(arg)?;
+    let (head, arg) = both(GuideView::of_type(head), GuideView::of_type(arg))?;
     Ok(GuideViewForm::On(head, arg))
 }
 
@@ -365,40 +362,35 @@ fn built_form(guide: &Guide) -> Result<GuideViewForm, NoMemory>
 fn built_product(product: Product, domain: &Guide, part: &Guide) -> Result<GuideViewForm, NoMemory>
     ensures { IfOk result (λ f. guide_view_tree f ≡ product_tree product domain.now part.now) }
 {
-    let domain = GuideView::of_guide(domain)?;
-    let part = GuideView::of_guide(part)?;
+    let (domain, part) = both(GuideView::of_guide(domain), GuideView::of_guide(part))?;
     Ok(product_form(product, domain, part))
 }
 
 fn built_allt(domain: &GuideKind, part: &Guide) -> Result<GuideViewForm, NoMemory>
     ensures { IfOk result (λ f. guide_view_tree f ≡ allt domain.now part.now) }
 {
-    let domain = KindView::of_guide_kind(domain)?;
-    let part = GuideView::of_guide(part)?;
+    let (domain, part) = both(KindView::of_guide_kind(domain), GuideView::of_guide(part))?;
     Ok(GuideViewForm::Allt(domain, part))
 }
 
 fn built_at(head: &Guide, arg: &Pure) -> Result<GuideViewForm, NoMemory>
     ensures { IfOk result (λ f. guide_view_tree f ≡ at_ head.now arg.now) }
 {
-    let head = GuideView::of_guide(head)?;
-    let arg = PureView::of_pure(arg)?;
+    let (head, arg) = both(GuideView::of_guide(head), PureView::of_pure(arg))?;
     Ok(GuideViewForm::At(head, arg))
 }
 
 fn built_on(head: &Guide, arg: &Guide) -> Result<GuideViewForm, NoMemory>
     ensures { IfOk result (λ f. guide_view_tree f ≡ on head.now arg.now) }
 {
-    let head = GuideView::of_guide(head)?;
-    let arg = GuideView::of_guide(arg)?;
+    let (head, arg) = both(GuideView::of_guide(head), GuideView::of_guide(arg))?;
     Ok(GuideViewForm::On(head, arg))
 }
 
 fn eq_form(left: &Pure, right: &Pure) -> Result<GuideViewForm, NoMemory>
     ensures { IfOk result (λ f. guide_view_tree f ≡ eq left.now right.now) }
 {
-    let left = PureView::of_pure(left)?;
-    let right = PureView::of_pure(right)?;
+    let (left, right) = both(PureView::of_pure(left), PureView::of_pure(right))?;
     Ok(GuideViewForm::Eq(left, right))
 }
 
@@ -497,13 +489,14 @@ fn written_kind_form(alloc: Global, kind: &Kind) -> Result<KindViewForm, NoMemor
     match kind.form() {
         KindForm::Star => Ok(KindViewForm::Star),
         KindForm::Kpi(domain, part) => {
-            let domain = GuideView::of_type(domain)?;
-            let part = KindView::of_kind(alloc, part)?;
+            let (domain, part) = both(GuideView::of_type(domain), KindView::of_kind(alloc, part))?;
             Ok(KindViewForm::Kpi(domain, part))
         }
         KindForm::Kpit(domain, part) => {
-            let domain = KindView::of_kind(alloc, domain)?;
-            let part = KindView::of_kind(alloc, part)?;
+            let (domain, part) = both(
+                KindView::of_kind(alloc, domain),
+                KindView::of_kind(alloc, part),
+            )?;
             Ok(KindViewForm::Kpit(domain, part))
         }
     }
@@ -516,13 +509,14 @@ fn built_kind_form(kind: &GuideKind) -> Result<KindViewForm, NoMemory>
     match kind.form() {
         GuideKindForm::Star => Ok(KindViewForm::Star),
         GuideKindForm::Kpi(domain, part) => {
-            let domain = GuideView::of_guide(domain)?;
-            let part = KindView::of_guide_kind(part)?;
+            let (domain, part) = both(GuideView::of_guide(domain), KindView::of_guide_kind(part))?;
             Ok(KindViewForm::Kpi(domain, part))
         }
         GuideKindForm::Kpit(domain, part) => {
-            let domain = KindView::of_guide_kind(domain)?;
-            let part = KindView::of_guide_kind(part)?;
+            let (domain, part) = both(
+                KindView::of_guide_kind(domain),
+                KindView::of_guide_kind(part),
+            )?;
             Ok(KindViewForm::Kpit(domain, part))
         }
     }

@@ -4,12 +4,13 @@ ghost use Rattle.cdle_model.specs.Depth.{depth};
 ghost use Rattle.cdle_model.specs.Classes.{IsOf, UsedAs, pure_terms};
 ghost use Rattle.cdle_model.specs.Erasure.{HasErasure, erased};
 ghost use Rattle.cdle_model.specs.Forms.{ap, fn};
-ghost use Rattle.cdle_model.specs.Trees.{IsBelow, Tree, put, shift, var};
+ghost use Rattle.cdle_model.specs.Trees.{IsBelow, put, shift, var};
 ghost use Rattle.cdle_model.specs.declared.grammar.Sort.TheVariants.{OfTerm};
 ghost use Rattle.core_tree.specs.Nodes.{PutGives};
 ghost use Rattle.core_view.specs.Passed.{renumbered};
 ghost use Rattle.core_view.specs.Readings.{IsRead, IsTop, node_tree, pure_view_tree, reading_tree};
 
+use crate::both::both;
 use crate::erasure::{Erased, view};
 use crate::passed::Passed;
 use crate::pure_put::{put_built, put_number, put_written};
@@ -433,8 +434,7 @@ fn own_form(term: &Pure) -> Result<PureViewForm, NoMemory>
         PureForm::Name(item) => Ok(PureViewForm::Name(*item)),
         PureForm::Function(part) => Ok(PureViewForm::Function(PureView::of_pure(part)?)),
         PureForm::Ap(head, arg) => {
-            let head = PureView::of_pure(head)?;
-            let arg = PureView::of_pure(arg)?;
+            let (head, arg) = both(PureView::of_pure(head), PureView::of_pure(arg))?;
             Ok(PureViewForm::Ap(head, arg))
         }
     }
@@ -527,27 +527,11 @@ fn ap_form(
     requires { IsRead (ap (renumbered 0 passed.now (node_tree head)) (renumbered 0 passed.now (node_tree arg))) }
     ensures { IfOk result (λ f. pure_view_tree f ≡ ap (renumbered 0 passed.now (node_tree head)) (renumbered 0 passed.now (node_tree arg))) }
 {
-    // What is left at an early end is dropped by a call, which is one step of the proof.
-    match read_sharing(alloc, head, passed) {
-        Ok(head) => applied(head, read_sharing(alloc, arg, passed)),
-        Err(NoMemory) => {
-            drop(arg);
-            Err(NoMemory)
-        }
-    }
-}
-
-/// The application to what was read.
-fn applied(head: PureView, arg: Result<PureView, NoMemory>) -> Result<PureViewForm, NoMemory>
-    ensures { (t : Tree) → IfOk arg (λ a. a ≡ t) → IfOk result (λ f. pure_view_tree f ≡ ap head t) }
-{
-    match arg {
-        Ok(arg) => Ok(PureViewForm::Ap(head, arg)),
-        Err(NoMemory) => {
-            drop(head);
-            Err(NoMemory)
-        }
-    }
+    let (head, arg) = both(
+        read_sharing(alloc, head, passed),
+        read_sharing(alloc, arg, passed),
+    )?;
+    Ok(PureViewForm::Ap(head, arg))
 }
 
 /// The same tree as `read` gives, where the places are shared.
