@@ -8,3 +8,7 @@ pub mod Turns
 pub mod Shapes
 pub mod RowShapes
 pub mod Whole
+pub mod Stops
+pub mod Follows
+pub mod Endings
+pub mod BadPlaces

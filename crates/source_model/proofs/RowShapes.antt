@@ -4,7 +4,7 @@ use Rattle.source_model.specs.Grammar.{Value, Need, any, of_type, as_domain, Tes
 use Rattle.source_model.specs.Grammar as m
 use Rattle.source_model.specs.declared.token.TokenKind.{TokenKind}
 use Rattle.source_model.specs.declared.token.TokenKind.TheVariants as k
-use Rattle.source_model.specs.Rows.{Row, ◌▸◌, only, same_kind, atom_row, whole_atom_row, spine_row, term_row, argument_row, class_atom_row, class_row, type_argument_row, arrow_row, pattern_row, projection_row, branch_row, owner_row, annotation_row, side_row, kept_row, motive_row, import_row, parameter_row, constructor_row, item_row, body_is_type, body_row, raised, behind_type, row, outermost}
+use Rattle.source_model.specs.Rows.{Row, ◌▸◌, only, same_kind, atom_row, whole_atom_row, spine_row, term_row, argument_row, class_atom_row, class_row, type_argument_row, arrow_row, pattern_row, projection_row, annotation_row, item_row, body_is_type, body_row, raised, behind_type, row, outermost}
 use Rattle.source_model.proofs.Shapes.{Shape, a_token, a_part, an_option, an_owner, some_patterns, some_branches, some_parameters, some_constructors, a_module_so_far, taken, given}
 
 -- ---- what wants leave
@@ -74,7 +74,8 @@ without [] us = Some us
 without (s ∷ ss) [] = None
 without (s ∷ ss) (u ∷ us) = cond (same_shape s u) (without ss us) None
 
-same_without : (b : Bool) (s u : Shape) (ss us xs : List Shape) → same_shape s u ≡ b → (without ss us ≡ Some xs → us ≡ ss ++ xs) → cond b (without ss us) None ≡ Some xs → u ∷ us ≡ s ∷ ss ++ xs
+same_without : (b : Bool) (s u : Shape) (ss us xs : List Shape)
+    → same_shape s u ≡ b → (without ss us ≡ Some xs → us ≡ ss ++ xs) → cond b (without ss us) None ≡ Some xs → u ∷ us ≡ s ∷ ss ++ xs
 same_without true s u ss us xs same h e = rw (same_shape_is s u same, h e) refl
 same_without false s u ss us xs same h e = absurd cc
 
@@ -203,6 +204,16 @@ type_argument : (ss : List Shape) (n : ℕ) (t : TokenKind) → Leads (type_argu
 type_argument ss n k.MiddleDot = refl
 type_argument ss n t = lead_on (whole_atom_row n t) (Make m.At ∷ []) (a_token ∷ a_part ∷ ss) (a_part ∷ a_part ∷ ss) (a_part ∷ ss) (whole_atom (a_part ∷ ss) n t) refl
 
+arguments : (ss : List Shape) (n : ℕ) (t : TokenKind)
+    → Leads (raised n (argument_row (pred n) t ▸ (Test_ m.IsShallow ∷ Read (Arguments (pred n)) ∷ []))) (a_token ∷ a_part ∷ ss) (a_part ∷ ss)
+arguments ss n t =
+    lead_raised n _ (a_token ∷ a_part ∷ ss) (a_part ∷ ss) (lead_on (argument_row (pred n) t) _ (a_token ∷ a_part ∷ ss) (a_part ∷ ss) (a_part ∷ ss) (argument ss (pred n) t) refl)
+
+type_arguments : (ss : List Shape) (n : ℕ) (t : TokenKind)
+    → Leads (raised n (type_argument_row (pred n) t ▸ (Test_ m.IsShallow ∷ Read (TypeArguments (pred n)) ∷ []))) (a_token ∷ a_part ∷ ss) (a_part ∷ ss)
+type_arguments ss n t =
+    lead_raised n _ (a_token ∷ a_part ∷ ss) (a_part ∷ ss) (lead_on (type_argument_row (pred n) t) _ (a_token ∷ a_part ∷ ss) (a_part ∷ ss) (a_part ∷ ss) (type_argument ss (pred n) t) refl)
+
 arrow : (ss : List Shape) (n : ℕ) (left : Option ℕ) (t : TokenKind) → Leads (arrow_row n left t) (a_token ∷ a_part ∷ ss) (a_part ∷ ss)
 arrow ss n None k.Arrow = refl
 arrow ss n (Some c) k.Arrow = refl
@@ -249,10 +260,8 @@ row_leads (Motive n) vs t ss = lead_only (same_kind k.At t) _ (a_token ∷ ss) (
 row_leads (MaybeArrow n left) vs t ss = arrow ss n left t
 row_leads Projections vs t ss = projection ss t
 row_leads Patterns vs t ss = pattern_leads ss t
-row_leads (Arguments n) vs t ss =
-    lead_raised n _ (a_token ∷ a_part ∷ ss) (a_part ∷ ss) (lead_on (argument_row (pred n) t) _ (a_token ∷ a_part ∷ ss) (a_part ∷ ss) (a_part ∷ ss) (argument ss (pred n) t) refl)
-row_leads (TypeArguments n) vs t ss =
-    lead_behind _ (a_token ∷ a_part ∷ ss) (a_part ∷ ss) (lead_raised n _ (a_token ∷ a_part ∷ ss) (a_part ∷ ss) (lead_on (type_argument_row (pred n) t) _ (a_token ∷ a_part ∷ ss) (a_part ∷ ss) (a_part ∷ ss) (type_argument ss (pred n) t) refl))
+row_leads (Arguments n) vs t ss = arguments ss n t
+row_leads (TypeArguments n) vs t ss = lead_behind _ (a_token ∷ a_part ∷ ss) (a_part ∷ ss) (type_arguments ss n t)
 row_leads (Branches n) vs t ss = lead_only (same_kind k.Bar t) _ (a_token ∷ some_branches ∷ ss) (some_branches ∷ ss) refl
 row_leads Imports vs t ss = lead_only (same_kind k.Import t) _ (a_token ∷ a_module_so_far ∷ ss) (a_module_so_far ∷ ss) refl
 row_leads Items vs t ss = item ss t

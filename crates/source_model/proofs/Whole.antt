@@ -1,5 +1,5 @@
 -- Whatever is read without a fault is a module: each row keeps the shapes of the values that stand.
-use Rattle.std.proofs.Common.{◌≡◌, ℕ, List, [], ◌∷◌, ◌++◌, Option, Some, None, Result, Ok, Err, ◌⊎◌, inl, inr, refl, sym, ap, subst, ◌∙◌}
+use Rattle.std.proofs.Common.{◌≡◌, ℕ, List, [], ◌∷◌, ◌++◌, Some, None, Result, Ok, Err, ◌⊎◌, inl, inr, refl, sym, ap, subst, ◌∙◌}
 use Rattle.source_model.specs.Source.{Module}
 use Rattle.source_model.specs.Grammar.{Token, Value, token, part, nothing, module_so_far, Making, Symbol, The, Owner, Annotation, Side, KeptTerm, TypeGiven, Motive, MaybeArrow, Projections, Patterns, Arguments, TypeArguments, Branches, Imports, Items, Parameters, Constructors, Want, Test_, Make, Read}
 use Rattle.source_model.specs.Grammar as m
@@ -8,7 +8,7 @@ use Rattle.source_model.specs.Made.{made, left_out}
 use Rattle.source_model.specs.Parsing.{Given, Fault, run, ended, parsed, IsFirstFault}
 use Rattle.source_model.specs.SurfaceText.{Reads, begins, left, makes, tests, ReadsAll, end, more, Says}
 use Rattle.source_model.proofs.Said.{bind_ok, run_is, ended_is, parsed_is_said}
-use Rattle.source_model.proofs.Shapes.{Shape, a_token, a_part, an_owner, a_module_so_far, Is, is_token, is_part, is_owner, no_owner, no_option, is_module, Stand, bottom, on, taken, given, made_stand}
+use Rattle.source_model.proofs.Shapes.{Shape, a_token, an_owner, a_module_so_far, is_token, is_part, is_owner, no_owner, no_option, is_module, Stand, bottom, on, taken, given, made_stand}
 use Rattle.source_model.proofs.RowShapes.{grown, left_by, left_by_row, Shapes, without, without_is, with_one, with_one_is, given_from, behind_making, behind_want, behind_all, and_then, Leads, row_leads}
 
 and_then_is : (r : Shapes) (f : List Shape → Shapes) (xs : List Shape) → and_then r f ≡ Some xs → (us : List Shape) × (r ≡ Some us) × (f us ≡ Some xs)
@@ -25,7 +25,8 @@ module _ {A : Type 0} where
   given_stand text (s ∷ a_token ∷ ss) xs e (on {v = v} i (on {vs = vs} is_token h)) = let k : s ∷ ss ≡ xs = cc in subst (λ (us : List Shape). Stand us (v ∷ vs)) k (on i h)
   given_stand text us xs e h = absurd cc
 
-  some_made_stand : (text : A → List ℕ) (f : Making) (us xs : List Shape) (vs : List (Value A)) → with_one (given f) (without (taken f) us) ≡ Some xs → Stand us vs → Stand xs (made text f vs)
+  some_made_stand : (text : A → List ℕ) (f : Making) (us xs : List Shape) (vs : List (Value A))
+      → with_one (given f) (without (taken f) us) ≡ Some xs → Stand us vs → Stand xs (made text f vs)
   some_made_stand text f us xs vs e h =
       let o = with_one_is (given f) (without (taken f) us) xs e in
       subst (λ (ss : List Shape). Stand ss (made text f vs)) (sym o.2) (made_stand text f (stand_without (taken f) us o.0 vs o.1 h))
@@ -62,7 +63,8 @@ module _ {A : Type 0} where
   row_stands Owner ss vs h = owner_stands ss h
   row_stands s ss vs h = h
 
-  row_is : (s : Symbol) (vs : List (Value A)) (t : Token A) (ss : List Shape) (front : List Want) → row s vs t.kind ≡ Some front → behind_all front (a_token ∷ grown s ++ ss) ≡ Some (left_by_row s ∷ ss)
+  row_is : (s : Symbol) (vs : List (Value A)) (t : Token A) (ss : List Shape) (front : List Want)
+      → row s vs t.kind ≡ Some front → behind_all front (a_token ∷ grown s ++ ss) ≡ Some (left_by_row s ∷ ss)
   row_is s vs t ss front e = subst (λ (r : Row). Leads r (a_token ∷ grown s ++ ss) (left_by_row s ∷ ss)) e (row_leads s vs t.kind ss)
 
 mutual

@@ -7,3 +7,4 @@ pub mod Rows
 pub mod Made
 pub mod Parsing
 pub mod SurfaceText
+pub mod Prefixes

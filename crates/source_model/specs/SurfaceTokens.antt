@@ -9,7 +9,7 @@ use Rattle.source_model.specs.declared.token.TokenKind.{TokenKind}
 use Rattle.source_model.specs.declared.token.TokenKind.TheVariants.{Lambda, BigLambda, BigPi, Iota, Beta, Rho, Phi, Delta, Chi, FinalSigma, Mu, Sigma, Star, ForAll, Arrow, ErasedArrow, Equal, MiddleDot, First, Second, Period, Colon, Is, Open, Close, OpenBracket, CloseBracket, OpenBrace, CloseBrace, Less, Greater, Comma, Bar, Minus, At, Hash, Module, Import, Data, Name}
 
 -- a kind of token, and the bytes where it stands
-pub record Token : Type 0 where
+pub record TextToken : Type 0 where
   pub kind : TokenKind
   pub span : Span
 
@@ -87,9 +87,9 @@ sign_of [] cs = None
 sign_of (k ∷ ks) cs = if begins (spelling k) cs then Some k else sign_of ks cs
 
 -- the first of the kinds that these bytes spell, or a name; the words are ASCII
-abbrev pub word_of : List TokenKind → List ℕ → TokenKind
-word_of [] w = Name
-word_of (k ∷ ks) w = if bytes_eq w (spelling k) then k else word_of ks w
+abbrev pub word_kind : List TokenKind → List ℕ → TokenKind
+word_kind [] w = Name
+word_kind (k ∷ ks) w = if bytes_eq w (spelling k) then k else word_kind ks w
 
 -- one of these characters
 abbrev pub is_among : List ℕ → ℕ → Bool
@@ -113,9 +113,9 @@ abbrev pub stays_in_line : ℕ → Bool
 stays_in_line c = not (is_among (codes "\n") c)
 
 -- the longest beginning whose characters pass
-unfoldable pub run : (ℕ → Bool) → List ℕ → List ℕ
-run passes [] = []
-run passes (c ∷ cs) = if passes c then c ∷ run passes cs else []
+unfoldable pub longest : (ℕ → Bool) → List ℕ → List ℕ
+longest passes [] = []
+longest passes (c ∷ cs) = if passes c then c ∷ longest passes cs else []
 
 -- with one more character in front
 abbrev pub before : ℕ → Option (List ℕ) → Option (List ℕ)
@@ -144,7 +144,7 @@ comment (Some cs) = Gap cs
 
 -- a name or one of the words, or nothing begins so
 abbrev pub name_or_stray : ℕ → List ℕ → Lexeme
-name_or_stray c cs = if starts_name c then Word (word_of words (encode_utf8_all (c ∷ run continues_name cs))) (run continues_name cs) else Stray
+name_or_stray c cs = if starts_name c then Word (word_kind words (encode_utf8_all (c ∷ longest continues_name cs))) (longest continues_name cs) else Stray
 
 -- the sign, or else this
 abbrev pub sign_or : Option TokenKind → Lexeme → Lexeme
@@ -155,7 +155,7 @@ sign_or (Some k) other = Word k (drop 1 (spelling k))
 unfoldable pub lexeme : ℕ → List ℕ → Lexeme
 lexeme c cs =
     if is_white c then Gap []
-    else (if begins (codes "--") (c ∷ cs) then Gap (run stays_in_line cs)
+    else (if begins (codes "--") (c ∷ cs) then Gap (longest stays_in_line cs)
     else (if begins (codes "{-") (c ∷ cs) then comment (before 45 (through_close (drop 1 cs)))
     else sign_or (sign_of signs (c ∷ cs)) (name_or_stray c cs)))
 
@@ -171,23 +171,23 @@ abbrev pub width : List ℕ → ℕ
 width cs = length (encode_utf8_all cs)
 
 -- one more token in front, where there is no fault
-abbrev pub with_token : Token → Result (List Token) TokenFault → Result (List Token) TokenFault
+abbrev pub with_token : TextToken → Result (List TextToken) TokenFault → Result (List TextToken) TokenFault
 with_token t (Ok ts) = Ok (t ∷ ts)
 with_token t (Err fault) = Err fault
 
 -- what the lexeme of a character, at a place, puts before the tokens behind it
-abbrev pub put : ℕ → ℕ → Lexeme → Result (List Token) TokenFault → Result (List Token) TokenFault
+abbrev pub put : ℕ → ℕ → Lexeme → Result (List TextToken) TokenFault → Result (List TextToken) TokenFault
 put at c (Gap cs) rest = rest
 put at c (Word k cs) rest = with_token (record { kind = k; span = record { from = at; to = at + len_utf8 c + width cs } }) rest
 put at c Stray rest = Err (BadCharacter at)
 put at c Unclosed rest = Err (OpenComment at)
 
 -- The tokens of characters, of which the first stands at a place, and so many belong to the lexeme before.
-unfoldable pub tokens : ℕ → ℕ → List ℕ → Result (List Token) TokenFault
+unfoldable pub tokens : ℕ → ℕ → List ℕ → Result (List TextToken) TokenFault
 tokens skip at [] = Ok []
 tokens (suc n) at (c ∷ cs) = tokens n (at + len_utf8 c) cs
 tokens zero at (c ∷ cs) = put at c (lexeme c cs) (tokens (length (more (lexeme c cs))) (at + len_utf8 c) cs)
 
 -- the tokens of a text, or their first fault
-abbrev pub lexed : List ℕ → Result (List Token) TokenFault
+abbrev pub lexed : List ℕ → Result (List TextToken) TokenFault
 lexed text = tokens 0 0 (chars text)

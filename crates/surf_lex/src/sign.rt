@@ -1,7 +1,7 @@
 //! The tables of characters.
 ghost use Rattle.std.specs.Prelude.{◌≡◌, ◌∷◌, []};
 ghost use Rattle.cdle_model.specs.CoreTokens.{is_white};
-ghost use Rattle.source_model.specs.SurfaceTokens.{continues_name, is_reserved, sign_of, single_signs, starts_name, word_of, words};
+ghost use Rattle.source_model.specs.SurfaceTokens.{continues_name, is_reserved, sign_of, single_signs, starts_name, word_kind, words};
 
 use source_model::TokenKind;
 use unicode_ident::{is_xid_continue, is_xid_start};
@@ -83,7 +83,7 @@ pub(crate) fn is_in_name(c: char) -> bool
 
 /// The kind of a word: one of those that are no names, or a name.
 pub(crate) fn kind_of_word(word: &str) -> TokenKind
-    ensures { result ≡ word_of words word.now }
+    ensures { result ≡ word_kind words word.now }
 {
     if word == "module" {
         TokenKind::Module
