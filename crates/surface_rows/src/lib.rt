@@ -1,8 +1,10 @@
-//! The worked rows of surface text: tokens with their places, and the first faults.
+//! The worked rows of surface text: tokens with their places, the first faults, and a source tree of each form.
 //!
-//! Here are only tests, whose values were worked out by hand. The crate stands on `surf_lex` and `cdle_names`, and promises nothing to a
-//! crate above.
+//! Here are only tests, whose values were worked out by hand, and what builds their trees. The crate stands on `surf_lex`, `surf_tree` and
+//! what these stand on, and promises nothing to a crate above.
 #![tactic(auto)]
 
 #[cfg(test)]
 mod tokens;
+#[cfg(test)]
+mod trees;
