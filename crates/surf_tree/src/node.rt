@@ -1,5 +1,5 @@
 //! The nodes of source trees.
-ghost use Rattle.std.specs.Prelude.{◌≡◌, ◌≤◌, ◌<◌, true, false, IfOk};
+ghost use Rattle.std.specs.Prelude.{◌≡◌, ◌≤◌, true, false, IfOk};
 ghost use Rattle.source_model.specs.Heights.{levels, is_kind, is_none, span_of};
 ghost use Rattle.surf_tree.specs.Forms.{term_tree, type_tree, kind_tree, place};
 ghost use Rattle.surf_tree.specs.Nodes.{IsNode};
