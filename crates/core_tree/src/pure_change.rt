@@ -12,6 +12,7 @@ ghost use Rattle.core_tree.specs.Changes.{part_of, replaced, stands, ChangeGives
 use crate::change::Change;
 use crate::part::Part;
 use crate::pure::{Pure, PureForm};
+use crate::stack::refuse_deep_shift;
 use crate::stop::{PutStop, refuse_too_deep};
 use cdle_model::NoMemory;
 use std::alloc::Global;
@@ -24,6 +25,7 @@ impl Pure {
         ensures { IfOk result (λ t. t ≡ shift from by self.now) }
     {
         let change = Change::Raise(from, by);
+        refuse_deep_shift(&change, self.depth(), self.free())?;
         change.refuse_large(self.nodes(), self.free())?;
         self.moved(alloc, &change)
     }

@@ -1,4 +1,4 @@
-//! How deep guides and guide kinds may be, so that no recursion over them leaves the stack that a program has by default.
+//! How deep trees may be, so that no recursion over them leaves the stack that a program has by default.
 //! docs/PERFORMANCE.md tells what was measured.
 use crate::change::Change;
 use cdle_model::NoMemory;
@@ -6,10 +6,10 @@ use cdle_model::NoMemory;
 /// The deepest guide that is built; dropping one goes down by one call for each level.
 pub(crate) const DEEPEST: u32 = 32_768;
 
-/// The deepest guide that is shifted.
+/// The deepest tree that is shifted.
 const DEEPEST_SHIFTED: u32 = 16_384;
 
-/// Refuses to shift a guide or a guide kind that is too deep for it, where the change concerns a variable that is free in it.
+/// Refuses to shift a tree that is too deep for it, where the change concerns a variable that is free in it.
 pub(crate) fn refuse_deep_shift(
     change: &Change<'_>,
     depth: u32,
