@@ -1,7 +1,7 @@
 //! Source trees: terms, types and kinds as a module writes them, each with its place, and the items of a module.
 //!
 //! A tree is a node shared by its owners. Each node is the definitions' tree of its form at its place, whatever builds it, and has at most
-//! 32,768 levels: where a constructor would make more, it tells that memory is wanted, as it does where there is none. The crate stands on
+//! 16,384 levels: where a constructor would make more, it tells that memory is wanted, as it does where there is none. The crate stands on
 //! `source_model`, on `cdle_names` for spans and the numbers of names, and on `cdle_model`.
 #![tactic(auto)]
 

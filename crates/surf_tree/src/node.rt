@@ -12,7 +12,7 @@ use std::marker::Model;
 use std::rc::Rc;
 
 /// The most levels that a tree may have: dropping one goes down by one call for each.
-const MOST_LEVELS: u32 = 32_768;
+const MOST_LEVELS: u32 = 16_384;
 
 /// A term as a text writes it. A clone shares the node.
 #[cycle(source)]
@@ -308,7 +308,7 @@ impl Src {
     /// The form, with its parts.
     pub fn form(&self) -> &SrcForm
         ensures is { term_tree (span_of self.now) result.now ≡ self.now }
-        ensures bounded { levels self.now ≤ 32768 }
+        ensures bounded { levels self.now ≤ 16384 }
     {
         &self.node.form
     }
@@ -323,7 +323,7 @@ impl Src {
     /// One more than the height.
     pub fn levels(&self) -> u32
         ensures is { result ≡ levels self.now }
-        ensures bounded { result ≤ 32768 }
+        ensures bounded { result ≤ 16384 }
         ensures class { is_kind self.now ≡ false }
         ensures there { is_none self.now ≡ false }
     {
@@ -354,7 +354,7 @@ impl SrcType {
     /// The form, with its parts.
     pub fn form(&self) -> &SrcTypeForm
         ensures is { type_tree (span_of self.now) result.now ≡ self.now }
-        ensures bounded { levels self.now ≤ 32768 }
+        ensures bounded { levels self.now ≤ 16384 }
     {
         &self.node.form
     }
@@ -369,7 +369,7 @@ impl SrcType {
     /// One more than the height.
     pub fn levels(&self) -> u32
         ensures is { result ≡ levels self.now }
-        ensures bounded { result ≤ 32768 }
+        ensures bounded { result ≤ 16384 }
         ensures class { is_kind self.now ≡ false }
         ensures there { is_none self.now ≡ false }
     {
@@ -400,7 +400,7 @@ impl SrcKind {
     /// The form, with its parts.
     pub fn form(&self) -> &SrcKindForm
         ensures is { kind_tree (span_of self.now) result.now ≡ self.now }
-        ensures bounded { levels self.now ≤ 32768 }
+        ensures bounded { levels self.now ≤ 16384 }
     {
         &self.node.form
     }
@@ -415,7 +415,7 @@ impl SrcKind {
     /// One more than the height.
     pub fn levels(&self) -> u32
         ensures is { result ≡ levels self.now }
-        ensures bounded { result ≤ 32768 }
+        ensures bounded { result ≤ 16384 }
         ensures class { is_kind self.now ≡ true }
         ensures there { is_none self.now ≡ false }
     {

@@ -12,7 +12,7 @@ use std::alloc::Global;
 
 fn levels_of_type(ty: &Option<SrcType>) -> u32
     ensures is { result ≡ levels (given ty.now) }
-    ensures bounded { result ≤ 32768 }
+    ensures bounded { result ≤ 16384 }
 {
     match ty {
         Some(ty) => ty.levels(),
@@ -22,7 +22,7 @@ fn levels_of_type(ty: &Option<SrcType>) -> u32
 
 fn levels_of_term(term: &Option<Src>) -> u32
     ensures is { result ≡ levels (given term.now) }
-    ensures bounded { result ≤ 32768 }
+    ensures bounded { result ≤ 16384 }
 {
     match term {
         Some(term) => term.levels(),
@@ -32,7 +32,7 @@ fn levels_of_term(term: &Option<Src>) -> u32
 
 fn levels_of_class(class: &Option<SrcClass>) -> u32
     ensures is { result ≡ levels (class_given class.now) }
-    ensures bounded { result ≤ 32768 }
+    ensures bounded { result ≤ 16384 }
 {
     match class {
         Some(SrcClass::OfKind(kind)) => kind.levels(),
@@ -43,7 +43,7 @@ fn levels_of_class(class: &Option<SrcClass>) -> u32
 
 fn levels_of_branches(branches: &Vec<SrcBranch>) -> u32
     ensures is { result ≡ levels (chain branches.now.items) }
-    ensures bounded { result ≤ 32768 }
+    ensures bounded { result ≤ 16384 }
 {
     let mut most = 0;
     let mut rest = branches.as_slice();

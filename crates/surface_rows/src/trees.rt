@@ -473,9 +473,9 @@ fn projected(alloc: Global, times: u32) -> Result<Src, NoMemory> {
 
 #[test]
 fn most_levels(rt: HostRuntime) {
-    match projected(rt.alloc(), 32_767) {
+    match projected(rt.alloc(), 16_383) {
         Ok(tree) => {
-            assert!(rt; tree.levels() == 32_768);
+            assert!(rt; tree.levels() == 16_384);
             assert!(rt; Src::snd(rt.alloc(), PLACE, &tree).is_err());
         }
         Err(_) => assert!(rt; false),
