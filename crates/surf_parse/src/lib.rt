@@ -1,0 +1,28 @@
+//! The parser of surface text: from the tokens of a module to its tree.
+//!
+//! `parse` gives exactly the module that the definition of surface text says the tokens are, with names by the numbers of a table that only
+//! grows, or exactly the first fault. Names are numbered first; then there is one function for each row of the grammar, which reads as the table
+//! of `source_model` says. The crate stands on it, on `surf_lex` for tokens, on `surf_tree` for what is made, and on `cdle_names`.
+#![tactic(auto)]
+
+mod atom;
+mod binder;
+mod cases;
+mod class;
+mod class_ends;
+mod data;
+mod error;
+mod item;
+mod kinds;
+mod module;
+mod names;
+mod numbers;
+mod parser;
+mod reader;
+mod spans;
+mod term;
+mod token;
+
+pub use cdle_names::NoMemory;
+pub use error::ParseFault;
+pub use parser::parse;
