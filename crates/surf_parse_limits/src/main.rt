@@ -68,6 +68,9 @@ fn items_of(alloc: Global, text: &str) -> Option<usize> {
     let Ok(tokens) = lex(alloc, text) else {
         return None;
     };
+    if tokens.len() > 1_048_576 {
+        return None;
+    }
     let mut names = NameTable::new(alloc);
     match parse(alloc, &tokens, text, "m", &mut names) {
         Ok(module) => Some(module.items.len()),

@@ -133,12 +133,12 @@ pub(crate) fn read_module(
     text: &str,
     names: &mut NameTable,
 ) -> Result<SrcModule, ParseFault> {
-    if text.len() > 1_048_576 {
+    if text.len() > 1_048_576 || names.len() > 1_000 {
         return Err(ParseFault::NoMemory);
     }
     match lex(alloc, text) {
-        Ok(tokens) => parse(alloc, &tokens, text, "m", names),
-        Err(_) => Err(ParseFault::NoMemory),
+        Ok(tokens) if tokens.len() <= 1_048_576 => parse(alloc, &tokens, text, "m", names),
+        _ => Err(ParseFault::NoMemory),
     }
 }
 
@@ -223,18 +223,24 @@ same : Π n : Bool . { not (not n) ≃ n } = λ n . χ { n ≃ n } - ρ (β<n>) 
 
 /// Whether the text is a module, or malformed.
 fn is_read_or_malformed(alloc: Global, text: &str) -> bool {
+    let mut names = NameTable::new(alloc);
+    match read_module(alloc, text, &mut names) {
+        Ok(module) => {
+            drop(module);
+            true
+        }
+        Err(ParseFault::Unexpected { .. }) => true,
+        Err(_) => has_bad_tokens(alloc, text),
+    }
+}
+
+/// Whether the text has a bad character, or a comment that is open.
+fn has_bad_tokens(alloc: Global, text: &str) -> bool {
     if text.len() > 1_048_576 {
         return false;
     }
-    let mut names = NameTable::new(alloc);
     match lex(alloc, text) {
-        Ok(tokens) => match parse(alloc, &tokens, text, "m", &mut names) {
-            Ok(module) => {
-                drop(module);
-                true
-            }
-            Err(fault) => matches!(fault, ParseFault::Unexpected { .. }),
-        },
+        Ok(_) => false,
         Err(fault) => fault != LexFault::NoMemory,
     }
 }
