@@ -148,7 +148,9 @@ fn is_wanted(alloc: Global, before: &str, row: &str, wanted: Wanted) -> Result<b
         return Ok(false);
     };
     let text = format!(in alloc; "{before}{front}{behind}")?;
-    let at = (before.len() + front.len()) as u32;
+    let Ok(at) = u32::try_from(before.len().saturating_add(front.len())) else {
+        return Ok(false);
+    };
     let mut names = NameTable::new(alloc);
     match read_module(alloc, text.as_str(), &mut names) {
         Err(fault) => Ok(fault == ParseFault::Unexpected { at, wanted }),
