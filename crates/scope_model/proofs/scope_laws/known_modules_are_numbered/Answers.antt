@@ -1,0 +1,5 @@
+use Rattle.scope_model.proofs.ScopedFits.{modules_numbered}
+use Rattle.scope_model.proofs.scope_laws.known_modules_are_numbered.Goals as goal
+
+pub returns : goal.returns
+returns c = modules_numbered

@@ -1,0 +1,4 @@
+pub mod Scoped
+pub mod ScopeNames
+pub mod Scope
+pub mod ScopeFits

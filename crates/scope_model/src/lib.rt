@@ -1,0 +1,10 @@
+//! What each name of a module stands for, and the laws of it: what the contracts of the elaborator's crates cite.
+//!
+//! `specs/` has the definitions: what a name stands for at a place, trees whose scope is known, the scope of a module or its first fault, and
+//! that each variable and item is used in its class. Each law is the contract of a function of `scope_laws.rt` whose body is empty, and so is
+//! proved at every check. The crate stands on `cdle_model` and `source_model`; no code runs here.
+#![tactic(auto)]
+
+mod scope_laws;
+
+pub use scope_laws::{known_modules_are_numbered, scoped_module_fits};
