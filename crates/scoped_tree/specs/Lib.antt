@@ -1,0 +1,4 @@
+pub mod Code
+pub mod Trees
+pub mod Branches
+pub mod Items
