@@ -1,0 +1,15 @@
+pub mod Entries
+pub mod Index
+pub mod Known
+pub mod Exports
+pub mod Names
+pub mod Spelled
+pub mod Layers
+pub mod Around
+pub mod Places
+pub mod Results
+pub mod Modules
+pub mod Data
+pub mod Passed
+pub mod Modulewise
+pub mod Resolved

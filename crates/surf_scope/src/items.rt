@@ -1,0 +1,258 @@
+//! The scope of an item behind others.
+ghost use Rattle.std.specs.Prelude.{◌≡◌, ◌+◌, ◌<◌, ◌^◌, ◌∷◌, ◌++◌, ℕ, codes, [], length, map, IfOk};
+ghost use Rattle.cdle_model.specs.declared.grammar.Sort.TheVariants.{OfTerm, OfType};
+ghost use Rattle.source_model.specs.Source.{data_item, def_item, type_item};
+ghost use Rattle.scope_model.specs.Scope.{of_sort, scoped, written as written_name};
+ghost use Rattle.scoped_tree.specs.Items.{BeginsAt, constructor_of as scoped_constructor_of, item_of as scoped_item_of, parameter_of as scoped_parameter_of};
+ghost use Rattle.surf_tree.specs.Forms.{place};
+ghost use Rattle.surf_tree.specs.Items.{constructor_of, item_of, parameter_of};
+ghost use Rattle.surf_scope.specs.Around.{IsReady, around_of};
+ghost use Rattle.surf_scope.specs.Entries.{listed_names};
+ghost use Rattle.surf_scope.specs.Index.{names_of};
+ghost use Rattle.surf_scope.specs.Modules.{ConstructorsAreNamed, ItemIsNamed, ParametersAreNamed, spelled_item};
+ghost use Rattle.surf_scope.specs.Passed.{GivesItem};
+ghost use Rattle.surf_scope.specs.Results.{Gives};
+ghost use Rattle.surf_scope.specs.Spelled.{TreeIsNamed, spelled};
+
+use crate::binders::Binders;
+use crate::copies::written;
+use crate::data::DataParts;
+use crate::data_names::DataNames;
+use crate::fault::ScopeFault;
+use crate::resolver::Resolver;
+use cdle_model::{Sort, Text};
+use cdle_names::{NameId, NameTable, NoMemory, Span};
+use scoped_tree::{ItemName, Scoped, ScopedData, ScopedItem};
+use std::alloc::{AllocError, Global};
+use surf_tree::{Src, SrcCtor, SrcItem, SrcKind, SrcParam, SrcType};
+
+/// The most parameters that a datatype may have: going under them takes one call for each.
+const MOST_PARAMETERS: usize = 4_096;
+
+/// An item whose scope is known, with the names of its Core items.
+#[derive(Drop)]
+pub(crate) struct NewItem {
+    pub(crate) item: ScopedItem,
+    pub(crate) names: Vec<ItemName>,
+}
+
+/// The name of an item that gives one Core item.
+fn name_of(alloc: Global, text: &str, sort: Sort) -> Result<Vec<ItemName>, NoMemory>
+    ensures { IfOk result (λ names. listed_names names.items ≡ of_sort sort text.now ∷ []) }
+{
+    let text = Text::new(alloc, text)?;
+    let mut names = Vec::new(alloc);
+    names.push(ItemName { text, sort })?;
+    Ok(names)
+}
+
+fn new_def(
+    alloc: Global,
+    module: &str,
+    text: &str,
+    span: Span,
+    ty: Scoped,
+    body: Scoped,
+) -> Result<NewItem, NoMemory>
+    ensures item { IfOk result (λ new. scoped_item_of new.item ≡ def_item (place span) («module».now ++ (codes "." ++ text.now)) ty body) }
+    ensures names { IfOk result (λ new. listed_names new.names.items ≡ of_sort OfTerm text.now ∷ []) }
+    ensures begins { IfOk result (λ new. (n : ℕ) → BeginsAt n new.item) }
+{
+    let names = name_of(alloc, text, Sort::OfTerm)?;
+    let name = written(alloc, module, text)?;
+    let item = ScopedItem::Def {
+        name,
+        span,
+        ty,
+        body,
+    };
+    Ok(NewItem { item, names })
+}
+
+fn new_type(
+    alloc: Global,
+    module: &str,
+    text: &str,
+    span: Span,
+    kind: Scoped,
+    body: Scoped,
+) -> Result<NewItem, NoMemory>
+    ensures item { IfOk result (λ new. scoped_item_of new.item ≡ type_item (place span) («module».now ++ (codes "." ++ text.now)) kind body) }
+    ensures names { IfOk result (λ new. listed_names new.names.items ≡ of_sort OfType text.now ∷ []) }
+    ensures begins { IfOk result (λ new. (n : ℕ) → BeginsAt n new.item) }
+{
+    let names = name_of(alloc, text, Sort::OfType)?;
+    let name = written(alloc, module, text)?;
+    let item = ScopedItem::TypeDef {
+        name,
+        span,
+        kind,
+        body,
+    };
+    Ok(NewItem { item, names })
+}
+
+fn new_data(
+    alloc: Global,
+    module: &str,
+    text: &str,
+    span: Span,
+    first: u32,
+    parts: DataParts,
+) -> Result<NewItem, NoMemory>
+    ensures item { IfOk result (λ new. scoped_item_of new.item ≡ data_item (place span) («module».now ++ (codes "." ++ text.now)) (map scoped_parameter_of parts.params.items) (map scoped_constructor_of parts.ctors.items)) }
+    ensures names { IfOk result (λ new. new.names.items ≡ parts.names.items) }
+    ensures begins { IfOk result (λ new. BeginsAt first new.item) }
+{
+    let name = written(alloc, module, text)?;
+    let item = ScopedItem::Data(ScopedData {
+        name,
+        first,
+        span,
+        params: parts.params,
+        ctors: parts.ctors,
+    });
+    Ok(NewItem {
+        item,
+        names: parts.names,
+    })
+}
+
+impl Resolver<'_> {
+    /// A term with its type.
+    #[tactic(auto, using(crate::proofs::Finding::text_is))]
+    fn def(
+        &self,
+        names: &NameTable,
+        name: NameId,
+        span: Span,
+        ty: &SrcType,
+        body: &Src,
+    ) -> Result<NewItem, ScopeFault>
+        requires ready { IsReady names.now self.now }
+        requires named { ItemIsNamed (length names.now) (def_item (place span) name.0 ty.now body.now) }
+        ensures { GivesItem (around_of names.now self.now) (spelled_item names.now (def_item (place span) name.0 ty.now body.now)) result }
+    {
+        let text = names.text(name);
+        if self.own.has(text) {
+            return Err(ScopeFault::Twice { span });
+        }
+        let ty = match self.ty(names, &Binders::Outermost, ty) {
+            Ok(ty) => ty,
+            Err(fault) => return Err(fault),
+        };
+        let body = match self.term(names, &Binders::Outermost, body) {
+            Ok(body) => body,
+            Err(fault) => return Err(fault),
+        };
+        match new_def(self.alloc, names.text(self.name), text, span, ty, body) {
+            Ok(new) => Ok(new),
+            Err(NoMemory) => Err(ScopeFault::NoMemory),
+        }
+    }
+
+    /// A type with its kind.
+    #[tactic(auto, using(crate::proofs::Finding::text_is))]
+    fn type_def(
+        &self,
+        names: &NameTable,
+        name: NameId,
+        span: Span,
+        kind: &SrcKind,
+        body: &SrcType,
+    ) -> Result<NewItem, ScopeFault>
+        requires ready { IsReady names.now self.now }
+        requires named { ItemIsNamed (length names.now) (type_item (place span) name.0 kind.now body.now) }
+        ensures { GivesItem (around_of names.now self.now) (spelled_item names.now (type_item (place span) name.0 kind.now body.now)) result }
+    {
+        let text = names.text(name);
+        if self.own.has(text) {
+            return Err(ScopeFault::Twice { span });
+        }
+        let kind = match self.kind(names, &Binders::Outermost, kind) {
+            Ok(kind) => kind,
+            Err(fault) => return Err(fault),
+        };
+        let body = match self.ty(names, &Binders::Outermost, body) {
+            Ok(body) => body,
+            Err(fault) => return Err(fault),
+        };
+        match new_type(self.alloc, names.text(self.name), text, span, kind, body) {
+            Ok(new) => Ok(new),
+            Err(NoMemory) => Err(ScopeFault::NoMemory),
+        }
+    }
+
+    /// The number of the item's first Core item.
+    fn next_number(&self) -> u32
+        requires { self.now.first + length (names_of self.now.own.now) < 2 ^ 32 }
+        ensures { result ≡ self.now.first + length (names_of self.now.own.now) }
+    {
+        self.first + self.own.len() as u32
+    }
+
+    /// A datatype.
+    #[tactic(auto, using(crate::proofs::Finding::text_is))]
+    fn data(
+        &self,
+        names: &NameTable,
+        name: NameId,
+        span: Span,
+        params: &[SrcParam],
+        ctors: &[SrcCtor],
+    ) -> Result<NewItem, ScopeFault>
+        requires ready { IsReady names.now self.now }
+        requires named { ItemIsNamed (length names.now) (data_item (place span) name.0 (map parameter_of params.now) (map constructor_of ctors.now)) }
+        ensures { GivesItem (around_of names.now self.now) (spelled_item names.now (data_item (place span) name.0 (map parameter_of params.now) (map constructor_of ctors.now))) result }
+    {
+        let text = names.text(name);
+        let given = match DataNames::new(self.alloc, text) {
+            Ok(given) => given,
+            Err(NoMemory) => return Err(ScopeFault::NoMemory),
+        };
+        if given.any_in(self.own) {
+            return Err(ScopeFault::Twice { span });
+        }
+        if params.len() > MOST_PARAMETERS {
+            return Err(ScopeFault::NoMemory);
+        }
+        let done = Vec::new(self.alloc);
+        let parts = match self.parts(names, &Binders::Outermost, name, given, done, params, ctors) {
+            Ok(parts) => parts,
+            Err(fault) => return Err(fault),
+        };
+        let first = self.next_number();
+        match new_data(self.alloc, names.text(self.name), text, span, first, parts) {
+            Ok(new) => Ok(new),
+            Err(NoMemory) => Err(ScopeFault::NoMemory),
+        }
+    }
+
+    /// An item whose names are replaced by what they stand for.
+    pub(crate) fn item(&self, names: &NameTable, item: &SrcItem) -> Result<NewItem, ScopeFault>
+        requires ready { IsReady names.now self.now }
+        requires named { ItemIsNamed (length names.now) (item_of item.now) }
+        ensures { GivesItem (around_of names.now self.now) (spelled_item names.now (item_of item.now)) result }
+    {
+        match item {
+            SrcItem::Def {
+                name,
+                span,
+                ty,
+                body,
+            } => self.def(names, *name, *span, ty, body),
+            SrcItem::TypeDef {
+                name,
+                span,
+                kind,
+                body,
+            } => self.type_def(names, *name, *span, kind, body),
+            SrcItem::Data {
+                name,
+                span,
+                params,
+                ctors,
+            } => self.data(names, *name, *span, params.as_slice(), ctors.as_slice()),
+        }
+    }
+}
