@@ -1,0 +1,6 @@
+pub mod Finding
+pub mod Bounds
+pub mod FirstUses
+pub mod Scoping
+pub mod Branches
+pub mod Parts

@@ -1,0 +1,7 @@
+pub mod Names
+pub mod Spelled
+pub mod Layers
+pub mod Shapes
+pub mod Around
+pub mod Places
+pub mod Results

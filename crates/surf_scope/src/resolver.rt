@@ -1,0 +1,191 @@
+//! What the names of a module stand for at a place of it.
+ghost use Rattle.std.specs.Prelude.{◌≡◌, length, map, IfOk};
+ghost use Rattle.scope_model.specs.ScopeNames.{exported, imported, is_one_of, listed, or_else, prelude, stands, stands_alone, stands_in};
+ghost use Rattle.surf_tree.specs.Forms.{name_use, place};
+ghost use Rattle.surf_scope.specs.Around.{AreFew, ImportsAreNamed, IsReady, around_of, exported_of, import_texts, item_standing};
+ghost use Rattle.surf_scope.specs.Layers.{AreNamed, bounds};
+ghost use Rattle.surf_scope.specs.Names.{UseIsNamed, spelled_use, standing_of};
+ghost use Rattle.surf_scope.specs.Results.{Gives};
+ghost use Rattle.scope_model.specs.Scope.{wanted_as};
+ghost use Rattle.scoped_tree.specs.Trees.{reference};
+
+use crate::binders::{Binders, find_binder};
+use crate::fault::ScopeFault;
+use crate::items::{ExportedModule, find_exported, find_listed};
+use cdle_model::Sort;
+use cdle_names::{NameId, NameTable, NoMemory, Span};
+use scoped_tree::{ItemName, Reference};
+use std::alloc::Global;
+use surf_tree::NameUse;
+
+/// What is known at an item.
+pub(crate) struct Resolver<'a> {
+    alloc: Global,
+    /// The module's own name, and those of the modules that it imports.
+    name: NameId,
+    imports: &'a [NameId],
+    modules: &'a [ExportedModule],
+    /// The number of the module's first Core item, and the names of those before this item.
+    first: u32,
+    own: &'a [ItemName],
+}
+
+/// The item of the first import that has one.
+#[tactic(auto, unfolding(scope_model::specs::ScopeNames::imported), using(crate::proofs::Finding::text_is))]
+fn find_imported(
+    names: &NameTable,
+    imports: &[NameId],
+    word: &str,
+    modules: &[ExportedModule],
+) -> Option<(Sort, u32)>
+    requires named { ImportsAreNamed (length names.now) imports.now }
+    requires few { AreFew modules.now }
+    ensures { item_standing result ≡ imported (import_texts names.now imports.now) word.now (map exported_of modules.now) }
+{
+    let mut rest = imports;
+    'imports: while let Some((import, others)) = rest.split_first() {
+        if let Some(found) = find_exported(names.text(*import), word, modules) {
+            return Some(found);
+        }
+        rest = others;
+    }
+    None
+}
+
+/// Whether the module is one of the imports.
+#[tactic(auto, using(crate::proofs::Finding::text_is))]
+fn is_import(names: &NameTable, imports: &[NameId], owner: &str) -> bool
+    requires { ImportsAreNamed (length names.now) imports.now }
+    ensures { result ≡ is_one_of owner.now (import_texts names.now imports.now) }
+{
+    let mut rest = imports;
+    'imports: while let Some((import, others)) = rest.split_first() {
+        if owner == names.text(*import) {
+            return true;
+        }
+        rest = others;
+    }
+    false
+}
+
+fn of_item(found: Option<(Sort, u32)>) -> Option<(Sort, Reference)>
+    ensures { standing_of result ≡ item_standing found }
+{
+    match found {
+        Some((sort, number)) => Some((sort, Reference::Item(number))),
+        None => None,
+    }
+}
+
+fn of_sort(
+    span: Span,
+    sort: Sort,
+    found: Option<(Sort, Reference)>,
+) -> Result<Reference, ScopeFault>
+    ensures { Gives reference result (wanted_as (place span) sort (standing_of found)) }
+{
+    match found {
+        None => Err(ScopeFault::Unbound { span }),
+        Some((Sort::OfTerm, reference)) => match sort {
+            Sort::OfTerm => Ok(reference),
+            Sort::OfType => Err(ScopeFault::WrongClass { span }),
+        },
+        Some((Sort::OfType, reference)) => match sort {
+            Sort::OfTerm => Err(ScopeFault::WrongClass { span }),
+            Sort::OfType => Ok(reference),
+        },
+    }
+}
+
+impl Resolver<'_> {
+    /// The innermost binder, else the module's item, else the first import's, else the prelude's.
+    fn find_alone(
+        &self,
+        names: &NameTable,
+        binders: &Binders<'_>,
+        word: &str,
+    ) -> Result<Option<(Sort, Reference)>, NoMemory>
+        requires ready { IsReady names.now self.now }
+        requires named { AreNamed names.now binders.now }
+        ensures { IfOk result (λ found. standing_of found ≡ stands_alone (around_of names.now self.now) (bounds names.now binders.now) word.now) }
+    {
+        if let Some(found) = find_binder(names, binders, word)? {
+            return Ok(Some(found));
+        }
+        Ok(self.find_item(names, word))
+    }
+
+    /// The module's item, else the first import's, else the prelude's.
+    fn find_item(&self, names: &NameTable, word: &str) -> Option<(Sort, Reference)>
+        requires { IsReady names.now self.now }
+        ensures { standing_of result ≡ or_else (listed word.now (around_of names.now self.now).first (around_of names.now self.now).own) (or_else (imported (around_of names.now self.now).imports word.now (around_of names.now self.now).modules) (exported prelude word.now (around_of names.now self.now).modules)) }
+    {
+        if let Some(found) = find_listed(word, self.first, self.own) {
+            return of_item(Some(found));
+        }
+        if let Some(found) = find_imported(names, self.imports, word, self.modules) {
+            return of_item(Some(found));
+        }
+        of_item(find_exported("prelude", word, self.modules))
+    }
+
+    /// The item of this module, of a direct import or of the prelude.
+    #[tactic(auto, using(crate::proofs::Finding::text_is))]
+    fn find_in(&self, names: &NameTable, owner: &str, word: &str) -> Option<(Sort, Reference)>
+        requires ready { IsReady names.now self.now }
+        ensures { standing_of result ≡ stands_in (around_of names.now self.now) owner.now word.now }
+    {
+        if owner == names.text(self.name) {
+            return of_item(find_listed(word, self.first, self.own));
+        }
+        if owner == "prelude" || is_import(names, self.imports, owner) {
+            return of_item(find_exported(owner, word, self.modules));
+        }
+        None
+    }
+
+    /// What a name stands for.
+    #[tactic(auto, unfolding(scope_model::specs::ScopeNames::stands), using(crate::proofs::Finding::text_is))]
+    fn find(
+        &self,
+        names: &NameTable,
+        binders: &Binders<'_>,
+        name: NameUse,
+    ) -> Result<Option<(Sort, Reference)>, NoMemory>
+        requires ready { IsReady names.now self.now }
+        requires named { AreNamed names.now binders.now }
+        requires used { UseIsNamed (length names.now) (name_use name) }
+        ensures { IfOk result (λ found. standing_of found ≡ stands (around_of names.now self.now) (bounds names.now binders.now) (spelled_use names.now (name_use name))) }
+    {
+        let word = names.text(name.name);
+        match name.module {
+            None => self.find_alone(names, binders, word),
+            Some(owner) => Ok(self.find_in(names, names.text(owner), word)),
+        }
+    }
+
+    /// What a name stands for where a term, or a type, is wanted.
+    pub(crate) fn reference(
+        &self,
+        names: &NameTable,
+        binders: &Binders<'_>,
+        sort: Sort,
+        span: Span,
+        name: NameUse,
+    ) -> Result<Reference, ScopeFault>
+        requires ready { IsReady names.now self.now }
+        requires named { AreNamed names.now binders.now }
+        requires used { UseIsNamed (length names.now) (name_use name) }
+        ensures { Gives reference result (wanted_as (place span) sort (stands (around_of names.now self.now) (bounds names.now binders.now) (spelled_use names.now (name_use name)))) }
+    {
+        match self.find(names, binders, name) {
+            Ok(found) => of_sort(span, sort, found),
+            Err(NoMemory) => Err(ScopeFault::NoMemory),
+        }
+    }
+
+    /// The memory in which trees are made.
+    pub(crate) fn alloc(&self) -> Global {
+        self.alloc
+    }
+}
