@@ -5,7 +5,6 @@ use Rattle.cdle_model.specs.declared.grammar.Sort.{Sort}
 use Rattle.source_model.specs.Source.{Pattern}
 use Rattle.scope_model.specs.Scope.{hides, mode_sort, with_patterns}
 use Rattle.scope_model.specs.ScopeNames.{Text, Bound, Standing, Variable, standing, bound, or_else, is_called}
-use Rattle.scoped_tree.specs.Trees.{reference}
 use Rattle.scoped_tree.specs.declared.forms.CaseForm.TheVariants as c
 use Rattle.scoped_tree.specs.declared.forms.Reference.{Reference}
 use Rattle.scoped_tree.specs.declared.forms.Reference.TheVariants as r

@@ -1,5 +1,5 @@
 -- The scope of branches, one after the other.
-use Rattle.std.proofs.Common.{◌≡◌, ℕ, List, [], ◌∷◌, ◌++◌, length, map, Option, Result, Ok, Err, refl, sym, ap, ◌∙◌, subst, arith}
+use Rattle.std.proofs.Common.{◌≡◌, List, [], ◌∷◌, ◌++◌, length, map, Result, Ok, Err, refl, sym, ap, ◌∙◌, subst, arith}
 use Rattle.std.proofs.lemmas.List.{append-nil}
 use Rattle.cdle_model.specs.declared.grammar.Sort.TheVariants.{OfTerm}
 use Rattle.source_model.specs.Source.{Span, Pattern, branch, none, nowhere}

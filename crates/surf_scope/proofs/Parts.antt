@@ -1,15 +1,13 @@
 -- Where a form has its place, its parts have theirs.
-use Rattle.std.proofs.Common.{◌≡◌, ℕ, List, [], ◌∷◌, Option, sym, subst, length, map}
+use Rattle.std.proofs.Common.{◌≡◌, ℕ, List, [], ◌∷◌, Option, sym, subst, length}
 use Rattle.std.specs.Borrow.{Bor}
-use Rattle.cdle_names.specs.declared.table.NameId as table
 use Rattle.source_model.specs.Source.{Span, one, two, bind, cases, SourceOne, SourceTwo, SourceBinder, CaseForm, Tree}
 use Rattle.scope_model.specs.ScopeNames.{Text}
-use Rattle.surf_tree.specs.Forms.{chain, name_use, number_or_none, pattern_of}
+use Rattle.surf_tree.specs.Forms.{chain}
 use Rattle.surf_tree.specs.declared.node.SrcBranch.{SrcBranch}
 use Rattle.surf_scope.specs.Layers.{AreNamed, LayerIsNamed}
-use Rattle.surf_scope.specs.Names.{UseIsNamed, number_named}
 use Rattle.surf_scope.specs.Places.{IsPlace}
-use Rattle.surf_scope.specs.Spelled.{PatternsAreNamed, TreeIsNamed}
+use Rattle.surf_scope.specs.Spelled.{TreeIsNamed}
 use Rattle.surf_scope.specs.declared.binders.Binders.{Binders}
 use Rattle.surf_scope.specs.declared.binders.Binders.TheViews.{Within}
 use Rattle.surf_scope.specs.declared.binders.Layer.{Layer}

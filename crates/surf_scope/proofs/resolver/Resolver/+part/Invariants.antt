@@ -1,5 +1,4 @@
 use Rattle.std.proofs.Common.{◌≡◌, ◌+◌, ◌*◌, ◌≤◌, [], length, max}
-use Rattle.source_model.specs.Heights.{span_of}
 use Rattle.scope_model.specs.Scope.{of_case}
 use Rattle.scoped_tree.specs.Trees.{case_form, levels}
 use Rattle.surf_tree.specs.Forms.{chain}
