@@ -1,9 +1,10 @@
 //! The parts of source trees by their shapes, as the definitions have them.
 ghost use Rattle.std.specs.Prelude.{◌≡◌};
 ghost use Rattle.source_model.specs.Heights.{span_of};
+ghost use Rattle.source_model.specs.Source.{Span as Place, cases, two};
 ghost use Rattle.scope_model.specs.Scope.{binder_sort as sort_of_binder, body_sort as sort_of_body, domain_sort as sort_of_domain, left_sort as sort_of_left, right_sort as sort_of_right};
-ghost use Rattle.scoped_tree.specs.Trees.{bind_form, two_form};
-ghost use Rattle.surf_tree.specs.Forms.{class_tree, erased_lambda, given, place};
+ghost use Rattle.scoped_tree.specs.Trees.{bind_form, case_form, two_form};
+ghost use Rattle.surf_tree.specs.Forms.{chain, class_tree, erased_lambda, given, number_or_none, place};
 ghost use Rattle.surf_scope.specs.Shapes.{part_tree, shape_tree};
 
 use cdle_model::Sort;
@@ -106,6 +107,30 @@ fn erased<'a>(span: Span, var: NameId, class: &'a Option<SrcClass>, part: &'a Sr
     }
 }
 
+fn two_terms<'a>(form: TwoForm, left: &'a Src, right: &'a Src) -> Shape<'a>
+    ensures { (s : Place) → shape_tree s result ≡ two s (two_form form) left.now right.now }
+{
+    Shape::Two(form, Part::Term(left), Part::Term(right))
+}
+
+fn taken_apart<'a>(
+    form: CaseForm,
+    var: Option<NameId>,
+    part: &'a Src,
+    motive: &'a Option<SrcType>,
+    branches: &'a Vec<SrcBranch>,
+) -> Shape<'a>
+    ensures { (s : Place) → shape_tree s result ≡ cases s (case_form form) (number_or_none var) part.now (given motive.now) (chain branches.now.items) }
+{
+    Shape::Cases(
+        form,
+        var,
+        Part::Term(part),
+        given_type(motive),
+        branches.as_slice(),
+    )
+}
+
 fn of_term(term: &Src) -> Shape<'_>
     ensures { shape_tree (span_of term.now) result ≡ term.now }
 {
@@ -116,12 +141,10 @@ fn of_term(term: &Src) -> Shape<'_>
             Shape::Bind(BindForm::Lam, Some(*var), given_type(ty), Part::Term(part))
         }
         SrcForm::Elam { var, class, part } => erased(span, *var, class, part),
-        SrcForm::App { head, arg } => Shape::Two(TwoForm::App, Part::Term(head), Part::Term(arg)),
-        SrcForm::Eapp { head, arg } => Shape::Two(TwoForm::Eapp, Part::Term(head), Part::Term(arg)),
+        SrcForm::App { head, arg } => two_terms(TwoForm::App, head, arg),
+        SrcForm::Eapp { head, arg } => two_terms(TwoForm::Eapp, head, arg),
         SrcForm::Tapp { head, arg } => Shape::Two(TwoForm::Tapp, Part::Term(head), Part::Type(arg)),
-        SrcForm::Pair { left, right } => {
-            Shape::Two(TwoForm::Pair, Part::Term(left), Part::Term(right))
-        }
+        SrcForm::Pair { left, right } => two_terms(TwoForm::Pair, left, right),
         SrcForm::Fst { part } => Shape::One(OneForm::Fst, Part::Term(part)),
         SrcForm::Snd { part } => Shape::One(OneForm::Snd, Part::Term(part)),
         SrcForm::Beta { side, kept } => {
@@ -152,24 +175,12 @@ fn of_term(term: &Src) -> Shape<'_>
             part,
             motive,
             branches,
-        } => Shape::Cases(
-            CaseForm::Mu,
-            Some(*var),
-            Part::Term(part),
-            given_type(motive),
-            branches.as_slice(),
-        ),
+        } => taken_apart(CaseForm::Mu, Some(*var), part, motive, branches),
         SrcForm::Sigma {
             part,
             motive,
             branches,
-        } => Shape::Cases(
-            CaseForm::Sigma,
-            None,
-            Part::Term(part),
-            given_type(motive),
-            branches.as_slice(),
-        ),
+        } => taken_apart(CaseForm::Sigma, None, part, motive, branches),
     }
 }
 
