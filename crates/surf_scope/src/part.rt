@@ -209,15 +209,15 @@ impl Resolver<'_> {
         requires place { IsPlace names.now self.now binders.now (two (place span) (two_form form) (part_tree left) (part_tree right)) }
         ensures { Gives (λ t. t) result (scoped (around_of names.now self.now) [] (bounds names.now binders.now) sort (spelled names.now (two (place span) (two_form form) (part_tree left.entry) (part_tree right.entry)))) }
     {
-        let left = match self.part(names, binders, left_class(form), left) {
-            Ok(left) => left,
+        let first = match self.part(names, binders, left_class(form), left) {
+            Ok(first) => first,
             Err(fault) => return Err(fault),
         };
-        let right = match self.part(names, binders, right_class(form), right) {
-            Ok(right) => right,
+        let second = match self.part(names, binders, right_class(form), right) {
+            Ok(second) => second,
             Err(fault) => return Err(fault),
         };
-        match Scoped::two(self.alloc(), span, form, left, right) {
+        match Scoped::two(self.alloc(), span, form, first, second) {
             Ok(tree) => Ok(tree),
             Err(NoMemory) => Err(ScopeFault::NoMemory),
         }

@@ -14,10 +14,10 @@ pub one-returns-in-Ok-one : goal.one-returns-in-Ok-one
 one-returns-in-Ok-one t c = one_is (around_of c.args.names.now c.args.self.now) c.args.names.now (bounds c.args.names.now c.args.binders.now) c.args.sort (place c.args.span) (one_form c.args.form) (part_tree c.args.inner) c.in-Ok.inner c.in-Ok-one.tree c.in-Ok.ensures c.in-Ok-one.ensures
 
 pub two-returns-in-Err-part : goal.two-returns-in-Err-part
-two-returns-in-Err-part t c = right_fails (around_of c.args.names.now c.args.self.now) c.args.names.now (bounds c.args.names.now c.args.binders.now) c.args.sort (place c.args.span) (two_form c.args.form) (part_tree c.args.left) (part_tree c.args.right) c.left_class.result c.left_class.ensures c.right_class.result c.right_class.ensures c.in-Err-part.fault c.in-Ok.left c.in-Ok.ensures c.in-Err-part.ensures
+two-returns-in-Err-part t c = right_fails (around_of c.args.names.now c.args.self.now) c.args.names.now (bounds c.args.names.now c.args.binders.now) c.args.sort (place c.args.span) (two_form c.args.form) (part_tree c.args.left) (part_tree c.args.right) c.left_class.result c.left_class.ensures c.right_class.result c.right_class.ensures c.in-Err-part.fault c.in-Ok.first c.in-Ok.ensures c.in-Err-part.ensures
 
 pub two-returns-in-Ok-two : goal.two-returns-in-Ok-two
-two-returns-in-Ok-two t c = two_are (around_of c.args.names.now c.args.self.now) c.args.names.now (bounds c.args.names.now c.args.binders.now) c.args.sort (place c.args.span) (two_form c.args.form) (part_tree c.args.left) (part_tree c.args.right) c.left_class.result c.left_class.ensures c.right_class.result c.right_class.ensures c.in-Ok.left c.in-Ok-part.right c.in-Ok-two.tree c.in-Ok.ensures c.in-Ok-part.ensures c.in-Ok-two.ensures
+two-returns-in-Ok-two t c = two_are (around_of c.args.names.now c.args.self.now) c.args.names.now (bounds c.args.names.now c.args.binders.now) c.args.sort (place c.args.span) (two_form c.args.form) (part_tree c.args.left) (part_tree c.args.right) c.left_class.result c.left_class.ensures c.right_class.result c.right_class.ensures c.in-Ok.first c.in-Ok-part.second c.in-Ok-two.tree c.in-Ok.ensures c.in-Ok-part.ensures c.in-Ok-two.ensures
 
 pub bind-returns-in-Err-part : goal.bind-returns-in-Err-part
 bind-returns-in-Err-part t c = body_fails (around_of c.args.names.now c.args.self.now) c.args.names.now (bounds c.args.names.now c.args.binders.now) c.args.sort (place c.args.span) (bind_form c.args.form) (number_or_none c.args.var) (part_tree c.args.domain) (part_tree c.args.body) c.domain_class.result c.domain_class.ensures (bind_form c.classed-known.result) c.classed-known.ensures c.binder_class.result c.body_class.result c.binder_class.ensures c.body_class.ensures c.in-Err-part.fault c.in-Ok.domain c.in-Ok.ensures c.in-Err-part.ensures
