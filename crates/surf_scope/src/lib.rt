@@ -12,11 +12,13 @@ mod data_names;
 mod exported;
 mod exports;
 mod fault;
+mod first_use;
 mod index;
 mod items;
 mod modules;
 mod part;
 mod resolver;
+mod shape;
 
 pub use cdle_names::NoMemory;
 pub use exports::Exports;
