@@ -9,8 +9,6 @@ mod faults;
 #[cfg(test)]
 mod many;
 #[cfg(test)]
-mod named;
-#[cfg(test)]
 mod read;
 #[cfg(test)]
 mod scopes;

@@ -1,5 +1,4 @@
 //! Modules from their texts.
-use crate::named::is_named;
 use cdle_names::NameTable;
 use scoped_tree::ScopedModule;
 use std::alloc::Global;
@@ -39,9 +38,6 @@ pub(crate) fn scope_of(
     names: &mut NameTable,
 ) -> Option<Result<ScopedModule, ScopeFault>> {
     let module = read_module(alloc, name, text, names)?;
-    if !is_named(&module, names.len()) {
-        return None;
-    }
     Some(resolve(alloc, &module, exports, names))
 }
 

@@ -58,10 +58,6 @@ listed_push w n (y ∷ xs) x =
     ∙ or_assoc (at_name w (n + 1 + length xs) x) (listed w (n + 1) xs) (at_name w n y)
     ∙ ap (λ (k : ℕ). or_else (at_name w k x) (or_else (listed w (n + 1) xs) (at_name w n y))) e
 
-pub listed_none : (w : Text) (n : ℕ) → standing_from n None ≡ listed w n []
-unfolding listed
-listed_none w n = refl
-
 newest : (b : Bool) (s : Sort) (n k : ℕ) (old : Option (Sort × ℕ)) → standing_from n (cond b (Some (s, k)) old) ≡ or_else (cond b (Some (s, item (n + k))) None) (standing_from n old)
 newest true s n k old = refl
 newest false s n k old = refl

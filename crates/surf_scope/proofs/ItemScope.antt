@@ -1,12 +1,11 @@
 -- The scope of an item from that of its parts.
 use Rattle.std.proofs.Common.{◌≡◌, ℕ, suc, ◌+◌, Bool, true, false, if◌then◌else◌, ◌||◌, List, [], ◌∷◌, ◌++◌, length, Result, Ok, Err, refl, sym, ap, ◌∙◌, subst, arith}
-use Rattle.std.proofs.lemmas.List.{append-nil, append_assoc, length-append, length-map}
+use Rattle.std.proofs.lemmas.List.{append_assoc, length-append, length-map}
 use Rattle.std.specs.Prelude.{codes}
 use Rattle.std.specs.Str.{bytes_eq}
-use Rattle.cdle_model.specs.declared.grammar.Sort.{Sort}
 use Rattle.cdle_model.specs.declared.grammar.Sort.TheVariants.{OfTerm, OfType}
 use Rattle.cdle_model.specs.CoreNames.{Name}
-use Rattle.source_model.specs.Source.{Span, Tree, Item, def_item, type_item, data_item}
+use Rattle.source_model.specs.Source.{Span, Item, def_item, type_item, data_item}
 use Rattle.scope_model.specs.Scope.{ScopeFault, Twice, ◌>>=◌, constructor_names, constructors, generated, item_names, meets, parameters, scoped, scoped_item, texts, unless_taken, with_parameters, written}
 use Rattle.scope_model.specs.ScopeNames.{Text, Around, Bound, Variable, is_one_of}
 use Rattle.scope_model.specs.Scoped.{Scoped, ScopedItem}
@@ -72,21 +71,6 @@ taken_more given behind own x w =
     moved false true h o = refl
     moved false false h o = refl
 
--- ---- an item of two parts
-
-module _ (a : Around) (p : Span) (x : Text) (s : Sort) (t u : Tree Text) (f : Scoped → Scoped → ScopedItem) where
-  pub item_twice : is_one_of x (texts a.own) ≡ true → unless_taken p (x ∷ []) (texts a.own) (scoped a [] [] OfType t >>= λ v. scoped a [] [] s u >>= λ w. Ok (f v w)) ≡ Err (Twice p)
-  item_twice h = rw h refl
-
-  pub class_fails : (e : code.ScopeFault) → is_one_of x (texts a.own) ≡ false → Fails e (scoped a [] [] OfType t) → Fails e (unless_taken p (x ∷ []) (texts a.own) (scoped a [] [] OfType t >>= λ v. scoped a [] [] s u >>= λ w. Ok (f v w)))
-  class_fails e h g = rw h (passes_on e (scoped a [] [] OfType t) (λ v. scoped a [] [] s u >>= λ w. Ok (f v w)) g)
-
-  pub body_fails : (e : code.ScopeFault) (v : Scoped) → is_one_of x (texts a.own) ≡ false → scoped a [] [] OfType t ≡ Ok v → Fails e (scoped a [] [] s u) → Fails e (unless_taken p (x ∷ []) (texts a.own) (scoped a [] [] OfType t >>= λ v. scoped a [] [] s u >>= λ w. Ok (f v w)))
-  body_fails e v h k g = rw (h, k) (passes_on e (scoped a [] [] s u) (λ w. Ok (f v w)) g)
-
-  pub item_is : (v w : Scoped) (i : ScopedItem) → is_one_of x (texts a.own) ≡ false → scoped a [] [] OfType t ≡ Ok v → scoped a [] [] s u ≡ Ok w → i ≡ f v w → unless_taken p (x ∷ []) (texts a.own) (scoped a [] [] OfType t >>= λ v. scoped a [] [] s u >>= λ w. Ok (f v w)) ≡ Ok i
-  item_is v w i h k g e = rw (h, k, g, e) refl
-
 -- ---- constructors
 
 module _ (a : Around) (bs : List Bound) where
@@ -111,24 +95,11 @@ module _ (a : Around) (bs : List Bound) where
       ∙ ap (λ (k : Result (List ScopedConstructor) ScopeFault). unless_taken c.span (c.name ∷ []) ys (scoped a [] bs OfType c.type >>= λ t. k >>= λ ds. Ok (record { span = c.span; name = written a c.name; type = t } ∷ ds)))
       (same_constructors cs (c.name ∷ xs) (c.name ∷ ys) (λ w. ap (λ (b : Bool). bytes_eq w c.name || b) (h w)))
 
-  pub constructor_fails : (e : code.ScopeFault) (taken : List Text) (done : List ScopedConstructor) (c : SourceConstructor) (cs : List SourceConstructor) → Fails e (scoped_constructor a bs taken c) → Fails e (constructors_on a bs taken done (c ∷ cs))
-  constructor_fails e taken done c cs h = rw (first_of taken c cs) (passes_on e (scoped_constructor a bs taken c >>= λ x. constructors a bs (c.name ∷ taken) cs >>= λ ds. Ok (x ∷ ds)) (λ ds. Ok (done ++ ds)) (passes_on e (scoped_constructor a bs taken c) (λ x. constructors a bs (c.name ∷ taken) cs >>= λ ds. Ok (x ∷ ds)) h))
-
   pub constructor_step : (given behind : List Name) (done : List ScopedConstructor) (c : SourceConstructor) (cs : List SourceConstructor) (x : ScopedConstructor) → scoped_constructor a bs (taken given behind a.own) c ≡ Ok x
       → constructors_on a bs (taken given behind a.own) done (c ∷ cs) ≡ constructors_on a bs (taken (given ++ record { text = c.name; sort = OfTerm } ∷ []) behind a.own) (done ++ x ∷ []) cs
   constructor_step given behind done c cs x h =
       (rw (first_of (taken given behind a.own) c cs, h) (behind_one done x (constructors a bs (c.name ∷ taken given behind a.own) cs)))
       ∙ ap (λ (r : Result (List ScopedConstructor) ScopeFault). r >>= λ ds. Ok ((done ++ x ∷ []) ++ ds)) (same_constructors cs (c.name ∷ taken given behind a.own) (taken (given ++ record { text = c.name; sort = OfTerm } ∷ []) behind a.own) (taken_more given behind a.own (record { text = c.name; sort = OfTerm })))
-
-  pub constructors_none : (taken : List Text) (done : List ScopedConstructor) → constructors_on a bs taken done [] ≡ Ok done
-  constructors_none taken done = ap Ok (append-nil done)
-
-  starts_with : (r : Result (List ScopedConstructor) ScopeFault) → (r >>= λ ds. Ok ([] ++ ds)) ≡ r
-  starts_with (Ok ds) = refl
-  starts_with (Err e) = refl
-
-  pub constructors_start : (taken : List Text) (cs : List SourceConstructor) → constructors_on a bs taken [] cs ≡ constructors a bs taken cs
-  constructors_start taken cs = starts_with (constructors a bs taken cs)
 
   -- as many come out
   pub constructors_many : (cs : List SourceConstructor) (taken : List Text) (ds : List ScopedConstructor) → constructors a bs taken cs ≡ Ok ds → length cs ≡ length ds
@@ -160,38 +131,8 @@ module _ (a : Around) (d : Text) (taken : List Text) (cs : List SourceConstructo
   shifted (Err e) c done q = refl
 
   module _ (bs : List Bound) (done : List ScopedParameter) where
-    pub parameter_fails : (e : code.ScopeFault) (p : SourceParameter) (ps : List SourceParameter) → Fails e (scoped_parameter a bs p) → Fails e (parts_on a d bs taken done (p ∷ ps) cs)
-    parameter_fails e p ps h = rw (parameters_of bs p ps) (passes_on e (scoped_parameter a bs p >>= λ q. parameters a (record { name = p.binder; binding = Variable p.sort } ∷ bs) ps >>= λ qs. Ok (q ∷ qs)) (λ qs. constructors a (under_datatype d (with_parameters (p ∷ ps) bs)) taken cs >>= λ ds. pair_of (done ++ qs) ds) (passes_on e (scoped_parameter a bs p) (λ q. parameters a (record { name = p.binder; binding = Variable p.sort } ∷ bs) ps >>= λ qs. Ok (q ∷ qs)) h))
-
     pub parameter_step : (p : SourceParameter) (ps : List SourceParameter) (q : ScopedParameter) → scoped_parameter a bs p ≡ Ok q → parts_on a d bs taken done (p ∷ ps) cs ≡ parts_on a d (record { name = p.binder; binding = Variable p.sort } ∷ bs) taken (done ++ q ∷ []) ps cs
     parameter_step p ps q h = rw (parameters_of bs p ps, h) (shifted (parameters a (record { name = p.binder; binding = Variable p.sort } ∷ bs) ps) (constructors a (under_datatype d (with_parameters (p ∷ ps) bs)) taken cs) done q)
-
-    pub last_fail : (e : code.ScopeFault) → Fails e (constructors a (under_datatype d bs) taken cs) → Fails e (parts_on a d bs taken done [] cs)
-    last_fail e h = passes_on e (constructors a (under_datatype d bs) taken cs) (λ ds. pair_of (done ++ []) ds) h
-
-    pub last_are : (ds : List ScopedConstructor) → constructors a (under_datatype d bs) taken cs ≡ Ok ds → parts_on a d bs taken done [] cs ≡ pair_of done ds
-    last_are ds h = rw h (ap (λ (l : List ScopedParameter). pair_of l ds) (append-nil done))
-
--- ---- a datatype
-
-module _ (a : Around) (p : Span) (d : Text) (ps : List SourceParameter) (cs : List SourceConstructor) where
-  pub data_twice : meets (generated d) (texts a.own) ≡ true → scoped_item a (data_item p d ps cs) ≡ Err (Twice p)
-  data_twice h = rw h refl
-
-  paired : (r : Result (List ScopedParameter) ScopeFault) (c : Result (List ScopedConstructor) ScopeFault) (f : List ScopedParameter → List ScopedConstructor → ScopedItem)
-      → (r >>= λ qs. c >>= λ ds. Ok (f qs ds)) ≡ ((r >>= λ qs. c >>= λ ds. pair_of ([] ++ qs) ds) >>= λ x. Ok (f x.0 x.1))
-  paired (Ok qs) (Ok ds) f = refl
-  paired (Ok qs) (Err e) f = refl
-  paired (Err e) c f = refl
-
-  data_parts : meets (generated d) (texts a.own) ≡ false → scoped_item a (data_item p d ps cs) ≡ (parts_on a d [] (generated d ++ texts a.own) [] ps cs >>= λ x. Ok (data_item p (written a d) x.0 x.1))
-  data_parts h = rw h (paired (parameters a [] ps) (constructors a (under_datatype d (with_parameters ps [])) (generated d ++ texts a.own) cs) (λ qs ds. data_item p (written a d) qs ds))
-
-  pub data_fails : (e : code.ScopeFault) → meets (generated d) (texts a.own) ≡ false → Fails e (parts_on a d [] (generated d ++ texts a.own) [] ps cs) → Fails e (scoped_item a (data_item p d ps cs))
-  data_fails e h g = subst (λ r. Fails e r) (sym (data_parts h)) (passes_on e (parts_on a d [] (generated d ++ texts a.own) [] ps cs) (λ x. Ok (data_item p (written a d) x.0 x.1)) g)
-
-  pub data_is : (qs : List ScopedParameter) (ds : List ScopedConstructor) (i : ScopedItem) → meets (generated d) (texts a.own) ≡ false → parts_on a d [] (generated d ++ texts a.own) [] ps cs ≡ pair_of qs ds → i ≡ data_item p (written a d) qs ds → scoped_item a (data_item p d ps cs) ≡ Ok i
-  data_is qs ds i h g e = data_parts h ∙ (rw (g, e) refl)
 
 -- ---- how many Core items an item gives
 

@@ -1,9 +1,7 @@
-pub mod Finding
 pub mod Bounds
 pub mod FirstUses
 pub mod Scoping
 pub mod Branches
-pub mod Parts
 pub mod Exporting
 pub mod Indexed
 pub mod ItemScope

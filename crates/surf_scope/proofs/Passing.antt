@@ -1,43 +1,29 @@
 -- The steps of the pass over items keep what the definitions give.
 use Rattle.std.proofs.Common.{◌≡◌, ℕ, ◌+◌, true, false, List, [], ◌∷◌, ◌++◌, length, map, Some, Result, Ok, Err, refl, sym, ap, ◌∙◌, subst, arith}
 use Rattle.std.proofs.lemmas.List.{append-nil, append_assoc, length-append, map_push}
-use Rattle.std.specs.Prelude.{codes, slice_get}
+use Rattle.std.specs.Prelude.{codes}
 use Rattle.cdle_model.specs.declared.grammar.Sort.TheVariants.{OfTerm, OfType}
 use Rattle.cdle_model.specs.CoreNames.{Name}
-use Rattle.source_model.specs.Source.{Span, Item, Module, data_item}
-use Rattle.scope_model.specs.Scope.{ScopeFault, Twice, all_names, around, constructor_names, count, generated, item_names, meets, scoped, scoped_item, scoped_items, scoped_module, texts, written}
-use Rattle.scope_model.specs.ScopeNames.{Text, Around, Bound, Exported, Variable}
+use Rattle.source_model.specs.Source.{Item}
+use Rattle.scope_model.specs.Scope.{ScopeFault, Twice, all_names, constructor_names, item_names, meets, scoped, scoped_item, written}
+use Rattle.scope_model.specs.ScopeNames.{Text, Around, Bound, Variable}
 use Rattle.scope_model.specs.Scoped.{Scoped, ScopedItem}
-use Rattle.scope_model.specs.Scoped as model
-use Rattle.scoped_tree.specs.Items.{AreNumbered, BeginsAt, constructor_of, core_items, item_name, item_of, parameter_of}
-use Rattle.scoped_tree.specs.declared.items.ScopedModule.{ScopedModule}
+use Rattle.scoped_tree.specs.Items.{AreNumbered, BeginsAt, constructor_of, core_items, item_of, parameter_of}
 use Rattle.scoped_tree.specs.declared.items.ScopedCtor.{ScopedCtor}
 use Rattle.scoped_tree.specs.declared.items.ScopedParam.{ScopedParam}
 use Rattle.scoped_tree.specs.declared.items.ScopedItem as tree
 use Rattle.cdle_model.specs.declared.grammar.Sort.{Sort}
-use Rattle.cdle_names.specs.declared.Span as places
-use Rattle.cdle_names.specs.declared.table.NameId as table
 use Rattle.surf_tree.specs.Items as source
-use Rattle.surf_tree.specs.declared.items.SrcCtor.{SrcCtor}
-use Rattle.surf_tree.specs.declared.items.SrcItem.{SrcItem}
-use Rattle.surf_tree.specs.declared.items.SrcModule.{SrcModule}
 use Rattle.surf_tree.specs.declared.items.SrcParam.{SrcParam}
-use Rattle.surf_scope.specs.Around.{import_texts}
-use Rattle.surf_scope.specs.Data.{ScopedConstructor, ScopedParameter, SourceConstructor, SourceParameter, back, constructors_on, front, given_names, names_behind, parts_on, scoped_constructor, scoped_parameter, taken}
-use Rattle.surf_scope.specs.Known.{exported_all}
-use Rattle.surf_scope.specs.Modules.{ConstructorsAreNamed, ItemsAreNamed, ParametersAreNamed, spelled_module, spelled_parameter}
+use Rattle.surf_scope.specs.Data.{ScopedConstructor, ScopedParameter, SourceConstructor, SourceParameter, constructors_on, parts_on, scoped_constructor, scoped_parameter, taken}
+use Rattle.surf_scope.specs.Modules.{spelled_parameter}
 use Rattle.surf_scope.specs.Names.{text_of, text_or_none}
-use Rattle.surf_scope.specs.declared.exported.ExportedModule.{ExportedModule}
-use Rattle.surf_scope.specs.Modulewise.{around_behind}
 use Rattle.surf_scope.specs.Passed.{GivesParts, taken_of}
-use Rattle.surf_scope.specs.Resolved.{IsResolved, IsScoped}
 use Rattle.surf_scope.specs.Results.{Fails}
 use Rattle.surf_scope.specs.declared.data.DataParts.{DataParts}
 use Rattle.surf_scope.specs.declared.data_names.DataNames.{DataNames}
 use Rattle.surf_scope.specs.declared.fault.ScopeFault as code
-use Rattle.surf_scope.specs.declared.fault.ScopeFault.TheVariants as faults
-use Rattle.surf_scope.proofs.Finding.{text_is}
-use Rattle.surf_scope.proofs.ItemScope.{as_many, constructor_fails, constructor_step, constructors_none, data_fails, data_is, data_twice, numbered_push, pair_of, parameter_step, passes_on, total, total_push}
+use Rattle.surf_scope.proofs.ItemScope.{as_many, constructor_step, numbered_push, parameter_step, passes_on, total, total_push}
 use Rattle.surf_scope.proofs.ModuleScope.{item_fails, item_step, items_none, items_on}
 
 pub fails_as : {A : Type 0} (e : code.ScopeFault) (r s : Result A ScopeFault) → r ≡ s → Fails e r → Fails e s
@@ -66,21 +52,9 @@ module _ (a : Around) (bs : List Bound) where
       let last : map constructor_of more ≡ map constructor_of done ++ constructor_of x ∷ [] = ap (map constructor_of) p ∙ map_push constructor_of done x in
       (rw (last, q, s, ← r) refl) ∙ sym step ∙ h
 
-  pub ctors_fail : (e : code.ScopeFault) (t : List Text) (done : List ScopedConstructor) (c : SourceConstructor) (cs : List SourceConstructor) (all : Result (List ScopedConstructor) ScopeFault)
-      → constructors_on a bs t done (c ∷ cs) ≡ all → Fails e (scoped_constructor a bs t c) → Fails e all
-  ctors_fail e t done c cs all h g = fails_as e (constructors_on a bs t done (c ∷ cs)) all h (constructor_fails a bs e t done c cs g)
-
-  pub ctors_end : {X : Type 0} (view : X → SourceConstructor) (rest : List X) (t : List Text) (done : List ScopedConstructor) (all : Result (List ScopedConstructor) ScopeFault) → length rest ≡ 0 → constructors_on a bs t done (map view rest) ≡ all → all ≡ Ok done
-  ctors_end view [] t done all n h = sym h ∙ constructors_none a bs t done
-  ctors_end view (x ∷ xs) t done all n h = absurd (omega arith)
-
 pub names_next : (given now : List Name) (c : SourceConstructor) (cs : List SourceConstructor) (w : Text) (all : List Name) → given ++ constructor_names (c ∷ cs) ≡ all → now ≡ given ++ record { text = w; sort = OfTerm } ∷ [] → c.name ≡ w → now ++ constructor_names cs ≡ all
 names_next given now c cs w all h q r =
     ap (λ (l : List Name). l ++ constructor_names cs) (q ∙ ap (λ (t : Text). given ++ record { text = t; sort = OfTerm } ∷ []) (sym r)) ∙ append_assoc given (record { text = c.name; sort = OfTerm } ∷ []) (constructor_names cs) ∙ h
-
-pub names_end : {X : Type 0} (view : X → SourceConstructor) (rest : List X) (given all : List Name) → length rest ≡ 0 → given ++ constructor_names (map view rest) ≡ all → given ≡ all
-names_end view [] given all n h = sym (append-nil given) ∙ h
-names_end view (x ∷ xs) given all n h = absurd (omega arith)
 
 -- ---- parts of a datatype
 
@@ -123,31 +97,10 @@ pub all_end : {X : Type 0} (f : List X → List (Item Text)) → f [] ≡ [] →
 all_end f z [] own all n h = sym (append-nil own) ∙ ap (λ (is : List (Item Text)). own ++ all_names is) (sym z) ∙ h
 all_end f z (x ∷ xs) own all n h = absurd (omega arith)
 
--- ---- a module
-
-pub module_is : (known : List Exported) (m : Module Text) (is : List ScopedItem) → scoped_items (around known m) m.items ≡ Ok is → scoped_module known m ≡ Ok (record { first = count known; items = is })
-module_is known m is h = rw h refl
-
-pub module_fails : (known : List Exported) (m : Module Text) (e : code.ScopeFault) → Fails e (scoped_items (around known m) m.items) → IsResolved known m (Err e)
-module_fails known m faults.NoMemory h = tt
-module_fails known m (faults.Unbound p) h = rw h refl
-module_fails known m (faults.WrongClass p) h = rw h refl
-module_fails known m (faults.Twice p) h = rw h refl
-
 -- ---- over the code's lists
 
-pub ctors_named : (n : ℕ) (rest : List SrcCtor) (c : SrcCtor) (others : List SrcCtor) → rest ≡ c ∷ others → ConstructorsAreNamed n (map source.constructor_of rest) → ConstructorsAreNamed n (map source.constructor_of others)
-ctors_named n rest c others e h = (subst (λ (l : List SrcCtor). ConstructorsAreNamed n (map source.constructor_of l)) e h).2
-
-pub params_named : (n : ℕ) (rest : List SrcParam) (p : SrcParam) (others : List SrcParam) → rest ≡ p ∷ others → ParametersAreNamed n (map source.parameter_of rest) → ParametersAreNamed n (map source.parameter_of others)
-params_named n rest p others e h = (subst (λ (l : List SrcParam). ParametersAreNamed n (map source.parameter_of l)) e h).2
-
-pub items_named : (n : ℕ) (rest : List SrcItem) (i : SrcItem) (others : List SrcItem) → rest ≡ i ∷ others → ItemsAreNamed n (map source.item_of rest) → ItemsAreNamed n (map source.item_of others)
-items_named n rest i others e h = (subst (λ (l : List SrcItem). ItemsAreNamed n (map source.item_of l)) e h).1
-
-pub written_is : (names : List Text) (m n : ℕ) (owner own x : Text) → slice_get names m ≡ Some owner → slice_get names n ≡ Some own → x ≡ owner ++ (codes "." ++ own) → x ≡ text_of names m ++ (codes "." ++ text_of names n)
-written_is names m n owner own x p q h =
-    h ∙ ap (λ (w : Text). w ++ (codes "." ++ own)) (sym (text_is names m owner p)) ∙ ap (λ (w : Text). text_of names m ++ (codes "." ++ w)) (sym (text_is names n own q))
+pub written_is : (names : List Text) (m n : ℕ) (owner own x : Text) → text_of names m ≡ owner → text_of names n ≡ own → x ≡ owner ++ (codes "." ++ own) → x ≡ text_of names m ++ (codes "." ++ text_of names n)
+written_is names m n owner own x p q h = h ∙ ap (λ (w : Text). w ++ (codes "." ++ own)) (sym p) ∙ ap (λ (w : Text). text_of names m ++ (codes "." ++ w)) (sym q)
 
 abbrev pub under_named : List Text → SrcParam → Sort → List Bound → List Bound
 under_named names p s bs = record { name = text_or_none names (Some p.name); binding = Variable s } ∷ bs
@@ -161,48 +114,3 @@ params_next a d t cs bs names done more x rest p others s e h q r =
     ∙ parameter_step a d t cs bs (map parameter_of done) (spelled_parameter names (source.parameter_of p)) (map (spelled_parameter names) (map source.parameter_of others)) (parameter_of x) h
     ∙ ap (λ (l : List ScopedParameter). parts_on a d (under_named names p (source.sort_of p.class) bs) t l (map (spelled_parameter names) (map source.parameter_of others)) cs) (sym last)
     ∙ ap (λ (z : Sort). parts_on a d (under_named names p z bs) t (map parameter_of more) (map (spelled_parameter names) (map source.parameter_of others)) cs) (sym r)
-
--- ---- a datatype whose names are given
-
-module _ (a : Around) (d w : Text) (g : DataNames) (e : d ≡ w) (h : given_names g ≡ front w) (k : names_behind g ≡ back w) where
-  taken_is : taken_of g a ≡ generated d ++ texts a.own
-  taken_is = ap (λ (xs : List Name). taken xs (names_behind g) a.own) h ∙ ap (λ (ys : List Name). taken (front w) ys a.own) k ∙ ap (λ (t : Text). taken (front t) (back t) a.own) (sym e)
-
-  meets_is : meets (generated d) (texts a.own) ≡ meets (texts (given_names g ++ names_behind g)) (texts a.own)
-  meets_is = ap (λ (t : Text). meets (texts (front t ++ back t)) (texts a.own)) e ∙ sym (ap (λ (ys : List Name). meets (texts (front w ++ ys)) (texts a.own)) k) ∙ sym (ap (λ (xs : List Name). meets (texts (xs ++ names_behind g)) (texts a.own)) h)
-
-  module _ (p : Span) (ps : List SourceParameter) (cs : List SourceConstructor) where
-    pub given_twice : true ≡ meets (texts (given_names g ++ names_behind g)) (texts a.own) → scoped_item a (data_item p d ps cs) ≡ Err (Twice p)
-    given_twice m = data_twice a p d ps cs (meets_is ∙ sym m)
-
-    parts_are : (done : List ScopedParam) → done ≡ [] → parts_on a d [] (taken_of g a) (map parameter_of done) ps cs ≡ parts_on a d [] (generated d ++ texts a.own) [] ps cs
-    parts_are done z = ap (λ (t : List Text). parts_on a d [] t (map parameter_of done) ps cs) taken_is ∙ ap (λ (l : List ScopedParam). parts_on a d [] (generated d ++ texts a.own) (map parameter_of l) ps cs) z
-
-    pub given_fails : (done : List ScopedParam) (f : code.ScopeFault) → done ≡ [] → false ≡ meets (texts (given_names g ++ names_behind g)) (texts a.own) → Fails f (parts_on a d [] (taken_of g a) (map parameter_of done) ps cs) → Fails f (scoped_item a (data_item p d ps cs))
-    given_fails done f z m r = data_fails a p d ps cs f (meets_is ∙ sym m) (fails_as f (parts_on a d [] (taken_of g a) (map parameter_of done) ps cs) (parts_on a d [] (generated d ++ texts a.own) [] ps cs) (parts_are done z) r)
-
-    pub given_is : (done : List ScopedParam) (qs : List ScopedParameter) (ds : List ScopedConstructor) (i : ScopedItem) → done ≡ [] → false ≡ meets (texts (given_names g ++ names_behind g)) (texts a.own)
-        → parts_on a d [] (taken_of g a) (map parameter_of done) ps cs ≡ pair_of qs ds → i ≡ data_item p (written a d) qs ds → scoped_item a (data_item p d ps cs) ≡ Ok i
-    given_is done qs ds i z m r j = data_is a p d ps cs qs ds i (meets_is ∙ sym m) (sym (parts_are done z) ∙ r) j
-
-    pub given_names_are : (ns : List Name) → ns ≡ given_names g ++ (constructor_names cs ++ names_behind g) → ns ≡ item_names (data_item p d ps cs)
-    given_names_are ns n = n ∙ ap (λ (xs : List Name). xs ++ (constructor_names cs ++ names_behind g)) h ∙ ap (λ (ys : List Name). front w ++ (constructor_names cs ++ ys)) k ∙ ap (λ (t : Text). front t ++ (constructor_names cs ++ back t)) (sym e)
-
--- ---- what is known at an item
-
-abbrev around_with : Text → List Text → List Exported → ℕ → List Name → Around
-around_with x is ms n own = record { name = x; imports = is; modules = ms; first = n; own = own }
-
-pub around_is : (names : List Text) (m : SrcModule) (known : List Exported) (own : List Name) (imports : List (table.NameId × places.Span)) (modules : List ExportedModule) (n : ℕ) → imports ≡ m.imports.items → exported_all modules ≡ known → n ≡ count known
-    → record { name = text_of names m.name.0; imports = import_texts names imports; modules = exported_all modules; first = n; own = own } ≡ around_behind known (spelled_module names (source.module_of m)) own
-around_is names m known own imports modules n p q r =
-    ap (λ (l : List (table.NameId × places.Span)). around_with (text_of names m.name.0) (import_texts names l) (exported_all modules) n own) p
-    ∙ ap (λ (l : List Exported). around_with (text_of names m.name.0) (import_texts names m.imports.items) l n own) q
-    ∙ ap (λ (k : ℕ). around_with (text_of names m.name.0) (import_texts names m.imports.items) known k own) r
-
-pub module_resolved : (known : List Exported) (m : Module Text) (r : ScopedModule) → scoped_items (around known m) m.items ≡ Ok (map item_of r.items.items) → r.first ≡ count known → r.name ≡ m.name → map item_name r.names.items ≡ all_names m.items → AreNumbered (count known) r.items.items → IsScoped known m r
-module_resolved known m r h n x ns k = record {
-  scope = module_is known m (map item_of r.items.items) h ∙ ap (λ (i : ℕ). let o : Result model.ScopedModule ScopeFault = Ok (record { first = i; items = map item_of r.items.items }) in o) (sym n);
-  exported = ap (λ (w : Text). let e : Exported = record { name = w; first = r.first; items = map item_name r.names.items } in e) x ∙ ap (λ (i : ℕ). let e : Exported = record { name = m.name; first = i; items = map item_name r.names.items } in e) n ∙ ap (λ (l : List Name). let e : Exported = record { name = m.name; first = count known; items = l } in e) ns;
-  numbers = subst (λ (i : ℕ). AreNumbered i r.items.items) (sym n) k;
-}

@@ -1,5 +1,5 @@
 -- What is known at an item.
-use Rattle.std.specs.Prelude.{ℕ, ◌+◌, ◌<◌, ◌^◌, List, [], ◌∷◌, length, map}
+use Rattle.std.specs.Prelude.{ℕ, ◌+◌, ◌<◌, ◌^◌, List, length, map}
 use Rattle.cdle_names.specs.declared.Span as places
 use Rattle.cdle_names.specs.declared.table.NameId as table
 use Rattle.source_model.specs.Source.{Span}
@@ -16,15 +16,9 @@ spelled_import names i = (text_of names i.0, i.1)
 abbrev pub import_texts : List Text → List (table.NameId × places.Span) → List Text
 import_texts names xs = map (λ x. x.0) (map (spelled_import names) (map import_of xs))
 
-abbrev pub ImportsAreNamed : ℕ → List (ℕ × Span) → Type 0
-ImportsAreNamed n [] = Unit {0}
-ImportsAreNamed n (x ∷ xs) = (x.0 < n) × ImportsAreNamed n xs
-
 abbrev pub around_of : List Text → code.Resolver → Around
 around_of names r = record { name = text_of names r.name.0; imports = import_texts names r.imports.now; modules = exported_all r.modules.now; first = r.first; own = names_of r.own.now }
 
--- each name that is known by its number has a text, and the numbers of the items before this one fit
-pub record IsReady (names : List Text) (r : code.Resolver) : Type 0 where
-  pub name : r.name.0 < length names
-  pub imports : ImportsAreNamed (length names) (map import_of r.imports.now)
-  pub own : r.first + length (names_of r.own.now) < 2 ^ 32
+-- the numbers of the items before this one fit
+abbrev pub IsReady : code.Resolver → Type 0
+IsReady r = r.first + length (names_of r.own.now) < 2 ^ 32

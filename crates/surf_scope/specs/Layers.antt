@@ -7,8 +7,8 @@ use Rattle.scoped_tree.specs.Trees.{case_form}
 use Rattle.scoped_tree.specs.declared.forms.CaseForm.TheVariants as c
 use Rattle.surf_tree.specs.Forms.{pattern_of}
 use Rattle.surf_tree.specs.declared.node.SrcPattern.{SrcPattern}
-use Rattle.surf_scope.specs.Names.{IsNamed, text_or_none}
-use Rattle.surf_scope.specs.Spelled.{PatternsAreNamed, spelled_patterns}
+use Rattle.surf_scope.specs.Names.{text_or_none}
+use Rattle.surf_scope.specs.Spelled.{spelled_patterns}
 use Rattle.surf_scope.specs.declared.binders.Binders.{Binders, Outermost, Within'}
 use Rattle.surf_scope.specs.declared.binders.Layer.{Layer}
 use Rattle.surf_scope.specs.declared.binders.Layer.TheVariants.{Variable, Case, Pattern}
@@ -22,18 +22,9 @@ layer_bounds names (Variable x s) = record { name = text_or_none names x; bindin
 layer_bounds names (Case f x) = of_case (case_form f) (text_or_none names x)
 layer_bounds names (Pattern ps) = pattern_bounds names ps.now
 
-abbrev pub LayerIsNamed : List Text → Layer → Type 0
-LayerIsNamed names (Variable x s) = IsNamed names x
-LayerIsNamed names (Case f x) = IsNamed names x
-LayerIsNamed names (Pattern ps) = PatternsAreNamed (length names) (map pattern_of ps.now)
-
 abbrev pub bounds : List Text → Binders → List Bound
 bounds names Outermost = []
 bounds names (Within' l p outer) = layer_bounds names l ++ bounds names outer
-
-abbrev pub AreNamed : List Text → Binders → Type 0
-AreNamed names Outermost = Unit {0}
-AreNamed names (Within' l p outer) = LayerIsNamed names l × AreNamed names outer
 
 -- how many binders there are
 abbrev pub layer_length : Layer → ℕ

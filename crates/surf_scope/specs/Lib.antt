@@ -7,7 +7,6 @@ pub mod Spelled
 pub mod Layers
 pub mod Shapes
 pub mod Around
-pub mod Places
 pub mod Results
 pub mod Modules
 pub mod Data

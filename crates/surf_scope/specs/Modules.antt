@@ -1,10 +1,10 @@
 -- Items and modules with the texts of their names.
-use Rattle.std.specs.Prelude.{ℕ, ◌<◌, List, [], ◌∷◌, map, Option}
+use Rattle.std.specs.Prelude.{ℕ, List, map, Option}
 use Rattle.source_model.specs.Source.{NameUse, Parameter, Constructor, Item, def_item, type_item, data_item, Module}
 use Rattle.scope_model.specs.ScopeNames.{Text}
-use Rattle.surf_scope.specs.Around.{ImportsAreNamed, spelled_import}
-use Rattle.surf_scope.specs.Names.{number_named, spelled_name, text_of}
-use Rattle.surf_scope.specs.Spelled.{TreeIsNamed, spelled}
+use Rattle.surf_scope.specs.Around.{spelled_import}
+use Rattle.surf_scope.specs.Names.{spelled_name, text_of}
+use Rattle.surf_scope.specs.Spelled.{spelled}
 
 abbrev pub spelled_parameter : List Text → Parameter (Option ℕ) (NameUse ℕ) → Parameter (Option Text) (NameUse Text)
 spelled_parameter names p = record { span = p.span; binder = spelled_name names p.binder; sort = p.sort; class = spelled names p.class }
@@ -24,24 +24,3 @@ abbrev pub spelled_module : List Text → Module ℕ → Module Text
 spelled_module names m = record { name = text_of names m.name; imports = map (spelled_import names) m.imports; items = spelled_items names m.items }
 
 -- ---- each name has a text
-
-abbrev pub ParametersAreNamed : ℕ → List (Parameter (Option ℕ) (NameUse ℕ)) → Type 0
-ParametersAreNamed n [] = Unit {0}
-ParametersAreNamed n (p ∷ ps) = number_named n p.binder × TreeIsNamed n p.class × ParametersAreNamed n ps
-
-abbrev pub ConstructorsAreNamed : ℕ → List (Constructor ℕ (Option ℕ) (NameUse ℕ)) → Type 0
-ConstructorsAreNamed n [] = Unit {0}
-ConstructorsAreNamed n (c ∷ cs) = (c.name < n) × TreeIsNamed n c.type × ConstructorsAreNamed n cs
-
-abbrev pub ItemIsNamed : ℕ → Item ℕ → Type 0
-ItemIsNamed n (def_item s x t u) = (x < n) × TreeIsNamed n t × TreeIsNamed n u
-ItemIsNamed n (type_item s x t u) = (x < n) × TreeIsNamed n t × TreeIsNamed n u
-ItemIsNamed n (data_item s x ps cs) = (x < n) × ParametersAreNamed n ps × ConstructorsAreNamed n cs
-
-abbrev pub ItemsAreNamed : ℕ → List (Item ℕ) → Type 0
-ItemsAreNamed n [] = Unit {0}
-ItemsAreNamed n (i ∷ is) = ItemIsNamed n i × ItemsAreNamed n is
-
--- below so many, each number of a name in the module
-abbrev pub ModuleIsNamed : ℕ → Module ℕ → Type 0
-ModuleIsNamed n m = (m.name < n) × ImportsAreNamed n m.imports × ItemsAreNamed n m.items

@@ -1,10 +1,10 @@
 -- A tree with the texts of its names.
-use Rattle.std.specs.Prelude.{ℕ, List, [], ◌∷◌, map, Option}
+use Rattle.std.specs.Prelude.{ℕ, List, map, Option}
 use Rattle.source_model.specs.Source.{Tree, Pattern, use_of, leaf, one, two, bind, cases, branch}
 use Rattle.scope_model.specs.ScopeNames.{Text}
 use Rattle.surf_tree.specs.Forms.{place}
 use Rattle.surf_tree.specs.declared.node.SrcPattern.{SrcPattern}
-use Rattle.surf_scope.specs.Names.{UseIsNamed, number_named, spelled_name, spelled_use}
+use Rattle.surf_scope.specs.Names.{spelled_name, spelled_use}
 
 abbrev pub spelled_patterns : List Text → List (Pattern (Option ℕ)) → List (Pattern (Option Text))
 spelled_patterns names ps = map (λ p. record { mode = p.mode; span = p.span; binder = spelled_name names p.binder }) ps
@@ -21,17 +21,3 @@ spelled names (two s f p q) = two s f (spelled names p) (spelled names q)
 spelled names (bind s f x p q) = bind s f (spelled_name names x) (spelled names p) (spelled names q)
 spelled names (cases s f x p m bs) = cases s f (spelled_name names x) (spelled names p) (spelled names m) (spelled names bs)
 spelled names (branch s u ps p bs) = branch s (spelled_use names u) (spelled_patterns names ps) (spelled names p) (spelled names bs)
-
-abbrev pub PatternsAreNamed : ℕ → List (Pattern (Option ℕ)) → Type 0
-PatternsAreNamed n [] = Unit {0}
-PatternsAreNamed n (p ∷ ps) = number_named n p.binder × PatternsAreNamed n ps
-
--- each name of the tree has a text
-abbrev pub TreeIsNamed : ℕ → Tree ℕ → Type 0
-TreeIsNamed n (use_of s u) = UseIsNamed n u
-TreeIsNamed n (leaf s f) = Unit {0}
-TreeIsNamed n (one s f p) = TreeIsNamed n p
-TreeIsNamed n (two s f p q) = TreeIsNamed n p × TreeIsNamed n q
-TreeIsNamed n (bind s f x p q) = number_named n x × TreeIsNamed n p × TreeIsNamed n q
-TreeIsNamed n (cases s f x p m bs) = number_named n x × TreeIsNamed n p × TreeIsNamed n m × TreeIsNamed n bs
-TreeIsNamed n (branch s u ps p bs) = UseIsNamed n u × PatternsAreNamed n ps × TreeIsNamed n p × TreeIsNamed n bs

@@ -6,10 +6,11 @@ ghost use Rattle.scope_model.specs.ScopeNames.{bound, is_called};
 ghost use Rattle.scoped_tree.specs.Trees.{case_form};
 ghost use Rattle.scoped_tree.specs.declared.forms.Reference.TheVariants.{Variable as OfNumber};
 ghost use Rattle.surf_tree.specs.Forms.{pattern_of};
-ghost use Rattle.surf_scope.specs.Layers.{AreNamed, LayerIsNamed, bounds, layer_bounds, layer_length, pattern_bounds};
-ghost use Rattle.surf_scope.specs.Names.{IsNamed, standing_of, text_or_none};
-ghost use Rattle.surf_scope.specs.Spelled.{PatternsAreNamed, spelled_patterns};
+ghost use Rattle.surf_scope.specs.Layers.{bounds, layer_bounds, layer_length, pattern_bounds};
+ghost use Rattle.surf_scope.specs.Names.{standing_of, text_or_none};
+ghost use Rattle.surf_scope.specs.Spelled.{spelled_patterns};
 
+use crate::names::spelling;
 use cdle_model::{Mode, Sort};
 use cdle_names::{NameId, NameTable, NoMemory};
 use scoped_tree::{CaseForm, Reference};
@@ -34,13 +35,11 @@ pub(crate) enum Binders<'a> {
 }
 
 /// Whether the binder is called so.
-#[tactic(auto, using(crate::proofs::Finding::text_is))]
 pub(crate) fn is_named(names: &NameTable, name: Option<NameId>, word: &str) -> bool
-    requires { IsNamed names.now name }
     ensures { result ≡ is_called word.now (text_or_none names.now name) }
 {
     match name {
-        Some(id) => word == names.text(id),
+        Some(id) => word == spelling(names, id),
         None => false,
     }
 }
@@ -59,16 +58,14 @@ fn is_joined(word: &[u8], prefix: &[u8], name: &[u8]) -> bool
 }
 
 /// Whether a binder that is called so behind the prefix is called by the word.
-#[tactic(auto, using(crate::proofs::Finding::text_is))]
 fn is_prefixed(names: &NameTable, prefix: &str, name: Option<NameId>, word: &str) -> bool
-    requires { IsNamed names.now name }
     ensures { result ≡ is_called word.now (prefixed prefix.now (text_or_none names.now name)) }
 {
     match name {
         Some(id) => is_joined(
             word.as_bytes(),
             prefix.as_bytes(),
-            names.text(id).as_bytes(),
+            spelling(names, id).as_bytes(),
         ),
         None => false,
     }
@@ -92,7 +89,6 @@ fn newer(
     number: u32,
     found: Option<(Sort, Reference)>,
 ) -> Option<(Sort, Reference)>
-    requires { IsNamed names.now (Some pattern.now.name) }
     ensures { result ≡ (if is_called word.now (text_or_none names.now (Some pattern.now.name)) then Some (sort_of_mode pattern.now.mode, OfNumber number) else found) }
 {
     if is_named(names, Some(pattern.name), word) {
@@ -109,7 +105,6 @@ fn find_in_pattern(
     word: &str,
     index: u32,
 ) -> Option<(Sort, Reference)>
-    requires named { PatternsAreNamed (length names.now) (map pattern_of patterns.now) }
     requires few { index + length patterns.now < 2 ^ 32 }
     ensures { standing_of result ≡ bound word.now index (pattern_bounds names.now patterns.now) }
 {
@@ -132,7 +127,6 @@ fn find_in_case(
     word: &str,
     index: u32,
 ) -> Option<(Sort, Reference)>
-    requires named { IsNamed names.now name }
     requires few { index + length (of_case (case_form form) (text_or_none names.now name)) < 2 ^ 32 }
     ensures { standing_of result ≡ bound word.now index (of_case (case_form form) (text_or_none names.now name)) }
 {
@@ -173,7 +167,6 @@ fn find_in_layer(
     word: &str,
     index: u32,
 ) -> Option<(Sort, Reference)>
-    requires named { LayerIsNamed names.now layer }
     requires few { index + layer_length layer < 2 ^ 32 }
     ensures { standing_of result ≡ bound word.now index (layer_bounds names.now layer.entry) }
 {
@@ -205,7 +198,6 @@ pub(crate) fn find_binder(
     binders: &Binders<'_>,
     word: &str,
 ) -> Result<Option<(Sort, Reference)>, NoMemory>
-    requires { AreNamed names.now binders.now }
     ensures { IfOk result (λ found. standing_of found ≡ bound word.now 0 (bounds names.now binders.now)) }
 {
     let mut index = 0u32;
@@ -225,9 +217,7 @@ pub(crate) fn find_binder(
 }
 
 /// Whether one of what a branch of a case binds before its pattern is called so.
-#[tactic(auto)]
 fn is_in_case(names: &NameTable, form: CaseForm, name: Option<NameId>, word: &str) -> bool
-    requires { IsNamed names.now name }
     ensures { result ≡ hides word.now (of_case (case_form form) (text_or_none names.now name)) }
 {
     match form {
@@ -249,8 +239,6 @@ pub(crate) fn is_hidden(
     patterns: &[SrcPattern],
     word: &str,
 ) -> bool
-    requires case { IsNamed names.now name }
-    requires pattern { PatternsAreNamed (length names.now) (map pattern_of patterns.now) }
     ensures { result ≡ hides word.now (with_patterns (spelled_patterns names.now (map pattern_of patterns.now)) (of_case (case_form form) (text_or_none names.now name))) }
 {
     let mut rest = patterns;

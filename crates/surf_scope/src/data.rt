@@ -1,25 +1,24 @@
 //! The scope of datatypes.
-ghost use Rattle.std.specs.Prelude.{◌≡◌, ◌++◌, ◌∷◌, ◌<◌, [], length, map, IfOk, OnOk};
+ghost use Rattle.std.specs.Prelude.{◌≡◌, ◌++◌, ◌∷◌, ◌<◌, [], map, IfOk, OnOk};
 ghost use Rattle.cdle_model.specs.declared.grammar.Sort.TheVariants.{OfTerm};
 ghost use Rattle.scope_model.specs.Scope.{meets, of_sort};
 ghost use Rattle.scoped_tree.specs.Items.{constructor_of as scoped_constructor_of, parameter_of as scoped_parameter_of};
-ghost use Rattle.surf_tree.specs.Forms.{class_tree};
 ghost use Rattle.surf_tree.specs.Items.{constructor_of, parameter_of};
 ghost use Rattle.surf_scope.specs.Around.{IsReady, around_of};
 ghost use Rattle.surf_scope.specs.Data.{given_names, names_behind, scoped_constructor, scoped_parameter, taken};
 ghost use Rattle.surf_scope.specs.Entries.{listed_names};
 ghost use Rattle.surf_scope.specs.Index.{names_of};
-ghost use Rattle.surf_scope.specs.Layers.{AreNamed, bounds};
-ghost use Rattle.surf_scope.specs.Modules.{ConstructorsAreNamed, ParametersAreNamed, spelled_constructor, spelled_parameter};
+ghost use Rattle.surf_scope.specs.Layers.{bounds};
+ghost use Rattle.surf_scope.specs.Modules.{spelled_constructor, spelled_parameter};
 ghost use Rattle.surf_scope.specs.Names.{text_of};
 ghost use Rattle.surf_scope.specs.Passed.{GivesConstructors, GivesParts};
 ghost use Rattle.surf_scope.specs.Results.{Gives};
-ghost use Rattle.surf_scope.specs.Spelled.{TreeIsNamed};
 
 use crate::binders::{Binders, Layer};
 use crate::copies::written;
 use crate::data_names::DataNames;
 use crate::fault::ScopeFault;
+use crate::names::spelling;
 use crate::resolver::Resolver;
 use cdle_model::Sort;
 use cdle_names::{NameId, NameTable, NoMemory};
@@ -85,9 +84,7 @@ impl Resolver<'_> {
         binders: &Binders<'_>,
         param: &SrcParam,
     ) -> Result<ScopedParam, ScopeFault>
-        requires ready { IsReady names.now self.now }
-        requires named { AreNamed names.now binders.now }
-        requires class { TreeIsNamed (length names.now) (class_tree param.now.class) }
+        requires { IsReady self.now }
         ensures { Gives scoped_parameter_of result (scoped_parameter (around_of names.now self.now) (bounds names.now binders.now) (spelled_parameter names.now (parameter_of param.now))) }
     {
         match self.class(names, binders, &param.class) {
@@ -111,7 +108,7 @@ impl Resolver<'_> {
     }
 
     /// A constructor's type under the parameters and the datatype, if no item has its name.
-    #[tactic(auto, using(crate::proofs::Finding::text_is, crate::proofs::Passing::constructor_twice))]
+    #[tactic(auto, using(crate::proofs::Passing::constructor_twice))]
     fn constructor(
         &self,
         names: &NameTable,
@@ -119,13 +116,10 @@ impl Resolver<'_> {
         given: &DataNames,
         ctor: &SrcCtor,
     ) -> Result<ScopedCtor, ScopeFault>
-        requires ready { IsReady names.now self.now }
-        requires named { AreNamed names.now binders.now }
-        requires name { ctor.now.name.0 < length names.now }
-        requires class { TreeIsNamed (length names.now) ctor.now.ty }
+        requires { IsReady self.now }
         ensures { Gives scoped_constructor_of result (scoped_constructor (around_of names.now self.now) (bounds names.now binders.now) (taken (given_names given.now) (names_behind given.now) (names_of self.now.own.now)) (spelled_constructor names.now (constructor_of ctor.now))) }
     {
-        let text = names.text(ctor.name);
+        let text = spelling(names, ctor.name);
         if self.is_taken(given, text) {
             return Err(ScopeFault::Twice { span: ctor.span });
         }
@@ -133,7 +127,7 @@ impl Resolver<'_> {
             Ok(ty) => ty,
             Err(fault) => return Err(fault),
         };
-        let owner = names.text(self.name);
+        let owner = spelling(names, self.name);
         match written(self.alloc, owner, text) {
             Ok(name) => {
                 Ok(ScopedCtor {
@@ -154,9 +148,7 @@ impl Resolver<'_> {
         start: DataNames,
         ctors: &[SrcCtor],
     ) -> Result<Constructors, ScopeFault>
-        requires ready { IsReady names.now self.now }
-        requires named { AreNamed names.now binders.now }
-        requires ctors { ConstructorsAreNamed (length names.now) (map constructor_of ctors.now) }
+        requires { IsReady self.now }
         ensures { GivesConstructors (around_of names.now self.now) (bounds names.now binders.now) start (map (spelled_constructor names.now) (map constructor_of ctors.now)) result }
     {
         let mut given = start;
@@ -167,7 +159,7 @@ impl Resolver<'_> {
                 Ok(scoped) => scoped,
                 Err(fault) => return Err(fault),
             };
-            let text = names.text(ctor.name);
+            let text = spelling(names, ctor.name);
             match add_ctor(self.alloc, &mut done, &mut given, scoped, text) {
                 Ok(()) => {}
                 Err(NoMemory) => return Err(ScopeFault::NoMemory),
@@ -190,10 +182,7 @@ impl Resolver<'_> {
         done: Vec<ScopedParam>,
         ctors: &[SrcCtor],
     ) -> Result<DataParts, ScopeFault>
-        requires ready { IsReady names.now self.now }
-        requires named { AreNamed names.now binders.now }
-        requires datatype { datatype.0 < length names.now }
-        requires ctors { ConstructorsAreNamed (length names.now) (map constructor_of ctors.now) }
+        requires { IsReady self.now }
         ensures { GivesParts (around_of names.now self.now) (text_of names.now datatype.0) (bounds names.now binders.now) given (map scoped_parameter_of done.items) [] (map (spelled_constructor names.now) (map constructor_of ctors.now)) result }
     {
         let layer = Layer::Variable(Some(datatype), Sort::OfType);
@@ -209,7 +198,6 @@ impl Resolver<'_> {
 
     /// The parameters behind those that are done, and then the constructors.
     #[cycle(parts)]
-    #[tactic(auto, using(crate::proofs::Passing::params_named))]
     pub(crate) fn parts(
         &self,
         names: &NameTable,
@@ -220,11 +208,7 @@ impl Resolver<'_> {
         params: &[SrcParam],
         ctors: &[SrcCtor],
     ) -> Result<DataParts, ScopeFault>
-        requires ready { IsReady names.now self.now }
-        requires named { AreNamed names.now binders.now }
-        requires datatype { datatype.0 < length names.now }
-        requires params { ParametersAreNamed (length names.now) (map parameter_of params.now) }
-        requires ctors { ConstructorsAreNamed (length names.now) (map constructor_of ctors.now) }
+        requires { IsReady self.now }
         ensures { GivesParts (around_of names.now self.now) (text_of names.now datatype.0) (bounds names.now binders.now) given (map scoped_parameter_of done.items) (map (spelled_parameter names.now) (map parameter_of params.now)) (map (spelled_constructor names.now) (map constructor_of ctors.now)) result }
     {
         let Some((param, others)) = params.split_first() else {

@@ -1,17 +1,18 @@
 //! The class of a `Λ` without annotation: what the first name is, a term or a type, that stands for its binder.
 //!
 //! A part is gone through once for each `Λ` without annotation that stands around it.
-ghost use Rattle.std.specs.Prelude.{◌≡◌, ◌∷◌, [], if◌then◌else◌, length, Some, None};
+ghost use Rattle.std.specs.Prelude.{◌≡◌, ◌∷◌, [], if◌then◌else◌, Some, None};
 ghost use Rattle.scope_model.specs.Scope.{body_sort, classed as form_of_class, domain_sort, first_of_two, first_use, is_use, left_sort, of_case, right_sort, unless_hidden, with_class};
 ghost use Rattle.scope_model.specs.ScopeNames.{is_called};
 ghost use Rattle.cdle_model.specs.declared.grammar.Sort.TheVariants.{OfTerm, OfType};
 ghost use Rattle.scoped_tree.specs.Trees.{bind_form, case_form, two_form};
 ghost use Rattle.surf_tree.specs.Forms.{chain, name_use};
-ghost use Rattle.surf_scope.specs.Names.{IsNamed, UseIsNamed, spelled_use, text_or_none};
+ghost use Rattle.surf_scope.specs.Names.{spelled_use, text_or_none};
 ghost use Rattle.surf_scope.specs.Shapes.{part_tree};
-ghost use Rattle.surf_scope.specs.Spelled.{TreeIsNamed, spelled};
+ghost use Rattle.surf_scope.specs.Spelled.{spelled};
 
 use crate::binders::{is_hidden, is_named};
+use crate::names::spelling;
 use crate::shape::{Part, Shape, body_class, domain_class, left_class, right_class, shape_of};
 use cdle_model::Sort;
 use cdle_names::{NameId, NameTable};
@@ -19,20 +20,17 @@ use scoped_tree::{BindForm, CaseForm, TwoForm};
 use surf_tree::{NameUse, SrcBranch};
 
 /// Whether the name, alone, is the one that is bound.
-#[tactic(auto, using(crate::proofs::Finding::text_is))]
 fn is_used_by(names: &NameTable, word: &str, name: NameUse) -> bool
-    requires { UseIsNamed (length names.now) (name_use name) }
     ensures { result ≡ is_use word.now (spelled_use names.now (name_use name)) }
 {
     match name.module {
         Some(_) => false,
-        None => word == names.text(name.name),
+        None => word == spelling(names, name.name),
     }
 }
 
 /// What the name is where it stands for the binder.
 fn used_as(names: &NameTable, word: &str, sort: Sort, name: NameUse) -> Option<Sort>
-    requires { UseIsNamed (length names.now) (name_use name) }
     ensures { result ≡ (if is_use word.now (spelled_use names.now (name_use name)) then Some sort else None) }
 {
     if is_used_by(names, word, name) {
@@ -45,7 +43,6 @@ fn used_as(names: &NameTable, word: &str, sort: Sort, name: NameUse) -> Option<S
 #[cycle(first)]
 #[tactic(auto, using(crate::proofs::FirstUses::in_name, crate::proofs::FirstUses::in_leaf, crate::proofs::FirstUses::in_one, crate::proofs::FirstUses::in_two, crate::proofs::FirstUses::in_bind, crate::proofs::FirstUses::in_cases))]
 fn first_in(names: &NameTable, word: &str, sort: Sort, part: Part<'_>) -> Option<Sort>
-    requires { TreeIsNamed (length names.now) (part_tree part) }
     ensures { result ≡ first_use word.now [] sort (spelled names.now (part_tree part.entry)) }
 {
     match shape_of(part) {
@@ -71,8 +68,6 @@ fn first_in_two(
     left: Part<'_>,
     right: Part<'_>,
 ) -> Option<Sort>
-    requires left { TreeIsNamed (length names.now) (part_tree left) }
-    requires right { TreeIsNamed (length names.now) (part_tree right) }
     ensures { result ≡ first_of_two (first_use word.now [] (left_sort (two_form form)) (spelled names.now (part_tree left.entry))) (first_use word.now [] (right_sort (two_form form)) (spelled names.now (part_tree right.entry))) }
 {
     match first_in(names, word, left_class(form), left) {
@@ -91,9 +86,6 @@ fn first_in_bind(
     domain: Part<'_>,
     body: Part<'_>,
 ) -> Option<Sort>
-    requires var { IsNamed names.now var }
-    requires domain { TreeIsNamed (length names.now) (part_tree domain) }
-    requires body { TreeIsNamed (length names.now) (part_tree body) }
     ensures { result ≡ first_of_two (first_use word.now [] (domain_sort (bind_form form)) (spelled names.now (part_tree domain.entry))) (unless_hidden (is_called word.now (text_or_none names.now var)) (first_use word.now [] (body_sort (bind_form form)) (spelled names.now (part_tree body.entry)))) }
 {
     match first_in(names, word, domain_class(form), domain) {
@@ -119,10 +111,6 @@ fn first_in_cases(
     motive: Part<'_>,
     branches: &[SrcBranch],
 ) -> Option<Sort>
-    requires var { IsNamed names.now var }
-    requires of { TreeIsNamed (length names.now) (part_tree of) }
-    requires motive { TreeIsNamed (length names.now) (part_tree motive) }
-    requires branches { TreeIsNamed (length names.now) (chain branches.now) }
     ensures { result ≡ first_of_two (first_use word.now [] OfTerm (spelled names.now (part_tree of.entry))) (first_of_two (first_use word.now [] OfType (spelled names.now (part_tree motive.entry))) (first_use word.now (of_case (case_form form) (text_or_none names.now var)) OfTerm (spelled names.now (chain branches.now)))) }
 {
     match first_in(names, word, Sort::OfTerm, of) {
@@ -144,8 +132,6 @@ fn first_in_branches(
     var: Option<NameId>,
     branches: &[SrcBranch],
 ) -> Option<Sort>
-    requires var { IsNamed names.now var }
-    requires branches { TreeIsNamed (length names.now) (chain branches.now) }
     ensures { result ≡ first_use word.now (of_case (case_form form) (text_or_none names.now var)) OfTerm (spelled names.now (chain branches.now)) }
 {
     let mut rest = branches;
@@ -168,8 +154,6 @@ fn first_in_branch(
     var: Option<NameId>,
     branch: &SrcBranch,
 ) -> Option<Sort>
-    requires var { IsNamed names.now var }
-    requires branch { TreeIsNamed (length names.now) (chain (branch.now ∷ [])) }
     ensures { result ≡ first_use word.now (of_case (case_form form) (text_or_none names.now var)) OfTerm (spelled names.now (chain (branch.now ∷ []))) }
 {
     if is_used_by(names, word, branch.ctor) {
@@ -192,20 +176,17 @@ fn form_of(found: Option<Sort>) -> BindForm
 }
 
 /// The form with the class of its first use.
-#[tactic(auto, using(crate::proofs::Finding::text_is))]
 pub(crate) fn classed(
     names: &NameTable,
     form: BindForm,
     var: Option<NameId>,
     body: Part<'_>,
 ) -> BindForm
-    requires var { IsNamed names.now var }
-    requires body { TreeIsNamed (length names.now) (part_tree body) }
     ensures { bind_form result ≡ with_class (bind_form form) (text_or_none names.now var) (spelled names.now (part_tree body.entry)) }
 {
     match form {
         BindForm::Unclassed => match var {
-            Some(id) => form_of(first_in(names, names.text(id), Sort::OfTerm, body)),
+            Some(id) => form_of(first_in(names, spelling(names, id), Sort::OfTerm, body)),
             None => form,
         },
         _ => form,

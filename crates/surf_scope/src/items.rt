@@ -2,23 +2,22 @@
 ghost use Rattle.std.specs.Prelude.{◌≡◌, ◌+◌, ◌<◌, ◌^◌, ◌∷◌, ◌++◌, ℕ, codes, [], length, map, IfOk};
 ghost use Rattle.cdle_model.specs.declared.grammar.Sort.TheVariants.{OfTerm, OfType};
 ghost use Rattle.source_model.specs.Source.{data_item, def_item, type_item};
-ghost use Rattle.scope_model.specs.Scope.{of_sort, scoped, written as written_name};
+ghost use Rattle.scope_model.specs.Scope.{of_sort};
 ghost use Rattle.scoped_tree.specs.Items.{BeginsAt, constructor_of as scoped_constructor_of, item_of as scoped_item_of, parameter_of as scoped_parameter_of};
 ghost use Rattle.surf_tree.specs.Forms.{place};
 ghost use Rattle.surf_tree.specs.Items.{constructor_of, item_of, parameter_of};
 ghost use Rattle.surf_scope.specs.Around.{IsReady, around_of};
 ghost use Rattle.surf_scope.specs.Entries.{listed_names};
 ghost use Rattle.surf_scope.specs.Index.{names_of};
-ghost use Rattle.surf_scope.specs.Modules.{ConstructorsAreNamed, ItemIsNamed, ParametersAreNamed, spelled_item};
+ghost use Rattle.surf_scope.specs.Modules.{spelled_item};
 ghost use Rattle.surf_scope.specs.Passed.{GivesItem};
-ghost use Rattle.surf_scope.specs.Results.{Gives};
-ghost use Rattle.surf_scope.specs.Spelled.{TreeIsNamed, spelled};
 
 use crate::binders::Binders;
 use crate::copies::written;
 use crate::data::DataParts;
 use crate::data_names::DataNames;
 use crate::fault::ScopeFault;
+use crate::names::spelling;
 use crate::resolver::Resolver;
 use cdle_model::{Sort, Text};
 use cdle_names::{NameId, NameTable, NoMemory, Span};
@@ -120,7 +119,6 @@ fn new_data(
 
 impl Resolver<'_> {
     /// A term with its type.
-    #[tactic(auto, using(crate::proofs::Finding::text_is))]
     fn def(
         &self,
         names: &NameTable,
@@ -129,11 +127,10 @@ impl Resolver<'_> {
         ty: &SrcType,
         body: &Src,
     ) -> Result<NewItem, ScopeFault>
-        requires ready { IsReady names.now self.now }
-        requires named { ItemIsNamed (length names.now) (def_item (place span) name.0 ty.now body.now) }
+        requires { IsReady self.now }
         ensures { GivesItem (around_of names.now self.now) (spelled_item names.now (def_item (place span) name.0 ty.now body.now)) result }
     {
-        let text = names.text(name);
+        let text = spelling(names, name);
         if self.own.has(text) {
             return Err(ScopeFault::Twice { span });
         }
@@ -145,14 +142,13 @@ impl Resolver<'_> {
             Ok(body) => body,
             Err(fault) => return Err(fault),
         };
-        match new_def(self.alloc, names.text(self.name), text, span, ty, body) {
+        match new_def(self.alloc, spelling(names, self.name), text, span, ty, body) {
             Ok(new) => Ok(new),
             Err(NoMemory) => Err(ScopeFault::NoMemory),
         }
     }
 
     /// A type with its kind.
-    #[tactic(auto, using(crate::proofs::Finding::text_is))]
     fn type_def(
         &self,
         names: &NameTable,
@@ -161,11 +157,10 @@ impl Resolver<'_> {
         kind: &SrcKind,
         body: &SrcType,
     ) -> Result<NewItem, ScopeFault>
-        requires ready { IsReady names.now self.now }
-        requires named { ItemIsNamed (length names.now) (type_item (place span) name.0 kind.now body.now) }
+        requires { IsReady self.now }
         ensures { GivesItem (around_of names.now self.now) (spelled_item names.now (type_item (place span) name.0 kind.now body.now)) result }
     {
-        let text = names.text(name);
+        let text = spelling(names, name);
         if self.own.has(text) {
             return Err(ScopeFault::Twice { span });
         }
@@ -177,7 +172,14 @@ impl Resolver<'_> {
             Ok(body) => body,
             Err(fault) => return Err(fault),
         };
-        match new_type(self.alloc, names.text(self.name), text, span, kind, body) {
+        match new_type(
+            self.alloc,
+            spelling(names, self.name),
+            text,
+            span,
+            kind,
+            body,
+        ) {
             Ok(new) => Ok(new),
             Err(NoMemory) => Err(ScopeFault::NoMemory),
         }
@@ -192,7 +194,6 @@ impl Resolver<'_> {
     }
 
     /// A datatype.
-    #[tactic(auto, using(crate::proofs::Finding::text_is))]
     fn data(
         &self,
         names: &NameTable,
@@ -201,11 +202,10 @@ impl Resolver<'_> {
         params: &[SrcParam],
         ctors: &[SrcCtor],
     ) -> Result<NewItem, ScopeFault>
-        requires ready { IsReady names.now self.now }
-        requires named { ItemIsNamed (length names.now) (data_item (place span) name.0 (map parameter_of params.now) (map constructor_of ctors.now)) }
+        requires { IsReady self.now }
         ensures { GivesItem (around_of names.now self.now) (spelled_item names.now (data_item (place span) name.0 (map parameter_of params.now) (map constructor_of ctors.now))) result }
     {
-        let text = names.text(name);
+        let text = spelling(names, name);
         let given = match DataNames::new(self.alloc, text) {
             Ok(given) => given,
             Err(NoMemory) => return Err(ScopeFault::NoMemory),
@@ -222,7 +222,14 @@ impl Resolver<'_> {
             Err(fault) => return Err(fault),
         };
         let first = self.next_number();
-        match new_data(self.alloc, names.text(self.name), text, span, first, parts) {
+        match new_data(
+            self.alloc,
+            spelling(names, self.name),
+            text,
+            span,
+            first,
+            parts,
+        ) {
             Ok(new) => Ok(new),
             Err(NoMemory) => Err(ScopeFault::NoMemory),
         }
@@ -230,8 +237,7 @@ impl Resolver<'_> {
 
     /// An item whose names are replaced by what they stand for.
     pub(crate) fn item(&self, names: &NameTable, item: &SrcItem) -> Result<NewItem, ScopeFault>
-        requires ready { IsReady names.now self.now }
-        requires named { ItemIsNamed (length names.now) (item_of item.now) }
+        requires { IsReady self.now }
         ensures { GivesItem (around_of names.now self.now) (spelled_item names.now (item_of item.now)) result }
     {
         match item {

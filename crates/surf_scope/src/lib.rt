@@ -16,6 +16,7 @@ mod first_use;
 mod index;
 mod items;
 mod modules;
+mod names;
 mod part;
 mod resolver;
 mod shape;

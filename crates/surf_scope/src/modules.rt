@@ -5,7 +5,7 @@ ghost use Rattle.surf_tree.specs.Items.{item_of, module_of};
 ghost use Rattle.surf_scope.specs.Entries.{listed_names};
 ghost use Rattle.surf_scope.specs.Exports.{known};
 ghost use Rattle.surf_scope.specs.Index.{names_of};
-ghost use Rattle.surf_scope.specs.Modules.{ItemIsNamed, ModuleIsNamed, spelled_item, spelled_module};
+ghost use Rattle.surf_scope.specs.Modules.{spelled_item, spelled_module};
 ghost use Rattle.surf_scope.specs.Passed.{GivesItem};
 ghost use Rattle.surf_scope.specs.Resolved.{IsResolved};
 ghost use Rattle.surf_scope.specs.Modulewise.{GivesItems, around_behind};
@@ -14,6 +14,7 @@ use crate::exports::Exports;
 use crate::fault::ScopeFault;
 use crate::index::ItemIndex;
 use crate::items::NewItem;
+use crate::names::spelling;
 use crate::resolver::Resolver;
 use cdle_model::Text;
 use cdle_names::{NameTable, NoMemory};
@@ -37,8 +38,6 @@ fn next_item(
     own: &ItemIndex,
     item: &SrcItem,
 ) -> Result<NewItem, ScopeFault>
-    requires named { ModuleIsNamed (length names.now) (module_of «module».now) }
-    requires item { ItemIsNamed (length names.now) (item_of item.now) }
     requires few { count_of (known exports.now) + length (names_of own.now) < 2 ^ 32 }
     ensures { GivesItem (around_behind (known exports.now) (spelled_module names.now (module_of «module».now)) (names_of own.now)) (spelled_item names.now (item_of item.now)) result }
 {
@@ -107,7 +106,6 @@ fn items(
     module: &SrcModule,
     exports: &Exports,
 ) -> Result<Passed, ScopeFault>
-    requires { ModuleIsNamed (length names.now) (module_of «module».now) }
     ensures { GivesItems (known exports.now) (spelled_module names.now (module_of «module».now)) result }
 {
     let first = exports.count();
@@ -135,7 +133,6 @@ pub fn resolve(
     exports: &Exports,
     names: &mut NameTable,
 ) -> Result<ScopedModule, ScopeFault>
-    requires { ModuleIsNamed (length names.old) (module_of «module».now) }
     ensures resolved { IsResolved (known exports.now) (spelled_module names.old (module_of «module».now)) result }
     ensures names { names.new ≡ names.old }
 {
@@ -143,7 +140,7 @@ pub fn resolve(
         Ok(passed) => passed,
         Err(fault) => return Err(fault),
     };
-    match Text::new(alloc, names.text(module.name)) {
+    match Text::new(alloc, spelling(&*names, module.name)) {
         Ok(name) => {
             Ok(ScopedModule {
                 name,

@@ -7,8 +7,7 @@ ghost use Rattle.scoped_tree.specs.Trees.{argument, bind_form, case_form, chain 
 ghost use Rattle.surf_tree.specs.Forms.{chain, class_tree, name_use, number_or_none, place};
 ghost use Rattle.surf_scope.specs.Around.{around_of};
 ghost use Rattle.surf_scope.specs.Layers.{bounds};
-ghost use Rattle.surf_scope.specs.Names.{IsNamed, text_or_none};
-ghost use Rattle.surf_scope.specs.Places.{IsPlace};
+ghost use Rattle.surf_scope.specs.Names.{text_or_none};
 ghost use Rattle.surf_scope.specs.Results.{Gives};
 ghost use Rattle.surf_scope.specs.Shapes.{part_tree};
 ghost use Rattle.surf_scope.specs.Spelled.{bare_of, spelled};
@@ -54,7 +53,7 @@ impl Resolver<'_> {
         binders: &Binders<'_>,
         term: &Src,
     ) -> Result<Scoped, ScopeFault>
-        requires place { IsPlace names.now self.now binders.now term.now }
+        requires { IsReady self.now }
         ensures { Gives (λ t. t) result (scoped (around_of names.now self.now) [] (bounds names.now binders.now) OfTerm (spelled names.now term.now)) }
     {
         self.part(names, binders, Sort::OfTerm, Part::Term(term))
@@ -67,7 +66,7 @@ impl Resolver<'_> {
         binders: &Binders<'_>,
         ty: &SrcType,
     ) -> Result<Scoped, ScopeFault>
-        requires place { IsPlace names.now self.now binders.now ty.now }
+        requires { IsReady self.now }
         ensures { Gives (λ t. t) result (scoped (around_of names.now self.now) [] (bounds names.now binders.now) OfType (spelled names.now ty.now)) }
     {
         self.part(names, binders, Sort::OfType, Part::Type(ty))
@@ -80,7 +79,7 @@ impl Resolver<'_> {
         binders: &Binders<'_>,
         kind: &SrcKind,
     ) -> Result<Scoped, ScopeFault>
-        requires place { IsPlace names.now self.now binders.now kind.now }
+        requires { IsReady self.now }
         ensures { Gives (λ t. t) result (scoped (around_of names.now self.now) [] (bounds names.now binders.now) OfType (spelled names.now kind.now)) }
     {
         self.part(names, binders, Sort::OfType, Part::Kind(kind))
@@ -93,7 +92,7 @@ impl Resolver<'_> {
         binders: &Binders<'_>,
         class: &SrcClass,
     ) -> Result<Scoped, ScopeFault>
-        requires place { IsPlace names.now self.now binders.now (class_tree class.now) }
+        requires { IsReady self.now }
         ensures { Gives (λ t. t) result (scoped (around_of names.now self.now) [] (bounds names.now binders.now) OfType (spelled names.now (class_tree class.now))) }
     {
         self.part(names, binders, Sort::OfType, of_class(class))
@@ -109,7 +108,7 @@ impl Resolver<'_> {
         span: Span,
         name: NameUse,
     ) -> Result<Scoped, ScopeFault>
-        requires place { IsPlace names.now self.now binders.now (use_of (place span) (name_use name)) }
+        requires { IsReady self.now }
         ensures { Gives (λ t. t) result (scoped (around_of names.now self.now) [] (bounds names.now binders.now) sort (spelled names.now (use_of (place span) (name_use name)))) }
     {
         match self.reference(names, binders, sort, span, name) {
@@ -148,7 +147,7 @@ impl Resolver<'_> {
         sort: Sort,
         part: Part<'_>,
     ) -> Result<Scoped, ScopeFault>
-        requires place { IsPlace names.now self.now binders.now (part_tree part) }
+        requires { IsReady self.now }
         ensures { Gives (λ t. t) result (scoped (around_of names.now self.now) [] (bounds names.now binders.now) sort (spelled names.now (part_tree part.entry))) }
     {
         let span = place_of_part(part);
@@ -170,7 +169,7 @@ impl Resolver<'_> {
 
     /// A form of one part.
     #[cycle(part)]
-    #[tactic(auto, using(crate::proofs::Scoping::inner_fails, crate::proofs::Scoping::one_is, crate::proofs::Parts::inner_place))]
+    #[tactic(auto, using(crate::proofs::Scoping::inner_fails, crate::proofs::Scoping::one_is))]
     fn one(
         &self,
         names: &NameTable,
@@ -180,7 +179,7 @@ impl Resolver<'_> {
         form: OneForm,
         inner: Part<'_>,
     ) -> Result<Scoped, ScopeFault>
-        requires place { IsPlace names.now self.now binders.now (one (place span) (one_form form) (part_tree inner)) }
+        requires { IsReady self.now }
         ensures { Gives (λ t. t) result (scoped (around_of names.now self.now) [] (bounds names.now binders.now) sort (spelled names.now (one (place span) (one_form form) (part_tree inner.entry)))) }
     {
         let inner = match self.part(names, binders, Sort::OfTerm, inner) {
@@ -195,7 +194,7 @@ impl Resolver<'_> {
 
     /// A form of two parts.
     #[cycle(part)]
-    #[tactic(auto, using(crate::proofs::Scoping::left_fails, crate::proofs::Scoping::right_fails, crate::proofs::Scoping::two_are, crate::proofs::Parts::left_place, crate::proofs::Parts::right_place))]
+    #[tactic(auto, using(crate::proofs::Scoping::left_fails, crate::proofs::Scoping::right_fails, crate::proofs::Scoping::two_are))]
     fn two(
         &self,
         names: &NameTable,
@@ -206,7 +205,7 @@ impl Resolver<'_> {
         left: Part<'_>,
         right: Part<'_>,
     ) -> Result<Scoped, ScopeFault>
-        requires place { IsPlace names.now self.now binders.now (two (place span) (two_form form) (part_tree left) (part_tree right)) }
+        requires { IsReady self.now }
         ensures { Gives (λ t. t) result (scoped (around_of names.now self.now) [] (bounds names.now binders.now) sort (spelled names.now (two (place span) (two_form form) (part_tree left.entry) (part_tree right.entry)))) }
     {
         let first = match self.part(names, binders, left_class(form), left) {
@@ -225,7 +224,7 @@ impl Resolver<'_> {
 
     /// A form of two parts of which the second stands under the binder.
     #[cycle(part)]
-    #[tactic(auto, using(crate::proofs::Scoping::domain_fails, crate::proofs::Scoping::body_fails, crate::proofs::Scoping::bind_is, crate::proofs::Parts::domain_place, crate::proofs::Parts::under))]
+    #[tactic(auto, using(crate::proofs::Scoping::domain_fails, crate::proofs::Scoping::body_fails, crate::proofs::Scoping::bind_is))]
     fn bind(
         &self,
         names: &NameTable,
@@ -237,7 +236,7 @@ impl Resolver<'_> {
         domain: Part<'_>,
         body: Part<'_>,
     ) -> Result<Scoped, ScopeFault>
-        requires place { IsPlace names.now self.now binders.now (bind (place span) (bind_form form) (number_or_none var) (part_tree domain) (part_tree body)) }
+        requires { IsReady self.now }
         ensures { Gives (λ t. t) result (scoped (around_of names.now self.now) [] (bounds names.now binders.now) sort (spelled names.now (bind (place span) (bind_form form) (number_or_none var) (part_tree domain.entry) (part_tree body.entry)))) }
     {
         let domain = match self.part(names, binders, domain_class(form), domain) {
@@ -258,7 +257,7 @@ impl Resolver<'_> {
 
     /// A case.
     #[cycle(part)]
-    #[tactic(auto, using(crate::proofs::Scoping::of_fails, crate::proofs::Scoping::motive_fails, crate::proofs::Scoping::branches_fail, crate::proofs::Scoping::cases_are, crate::proofs::Parts::of_place, crate::proofs::Parts::motive_place, crate::proofs::Parts::branches_place))]
+    #[tactic(auto, using(crate::proofs::Scoping::of_fails, crate::proofs::Scoping::motive_fails, crate::proofs::Scoping::branches_fail, crate::proofs::Scoping::cases_are))]
     fn cases(
         &self,
         names: &NameTable,
@@ -271,7 +270,7 @@ impl Resolver<'_> {
         motive: Part<'_>,
         branches: &[SrcBranch],
     ) -> Result<Scoped, ScopeFault>
-        requires place { IsPlace names.now self.now binders.now (cases (place span) (case_form form) (number_or_none var) (part_tree of) (part_tree motive) (chain branches.now)) }
+        requires { IsReady self.now }
         ensures { Gives (λ t. t) result (scoped (around_of names.now self.now) [] (bounds names.now binders.now) sort (spelled names.now (cases (place span) (case_form form) (number_or_none var) (part_tree of.entry) (part_tree motive.entry) (chain branches.now)))) }
     {
         let of = match self.part(names, binders, Sort::OfTerm, of) {
@@ -294,7 +293,7 @@ impl Resolver<'_> {
 
     /// The branches of a case.
     #[cycle(part)]
-    #[tactic(auto, using(crate::proofs::Branches::branch_fails, crate::proofs::Branches::branch_on, crate::proofs::Branches::branches_end, crate::proofs::Parts::first_place, crate::proofs::Parts::others_place))]
+    #[tactic(auto, using(crate::proofs::Branches::branch_fails, crate::proofs::Branches::branch_on, crate::proofs::Branches::branches_end))]
     fn branches(
         &self,
         names: &NameTable,
@@ -303,8 +302,7 @@ impl Resolver<'_> {
         var: Option<NameId>,
         branches: &[SrcBranch],
     ) -> Result<Vec<ScopedBranch>, ScopeFault>
-        requires var { IsNamed names.now var }
-        requires place { IsPlace names.now self.now binders.now (chain branches.now) }
+        requires { IsReady self.now }
         ensures { Gives (λ v. scoped_chain v.items) result (scoped (around_of names.now self.now) (of_case (case_form form) (text_or_none names.now var)) (bounds names.now binders.now) OfTerm (spelled names.now (chain branches.now))) }
     {
         let mut done = Vec::new(self.alloc());
@@ -325,7 +323,7 @@ impl Resolver<'_> {
 
     /// One branch of a case.
     #[cycle(part)]
-    #[tactic(auto, using(crate::proofs::Branches::ctor_fails, crate::proofs::Branches::inside_fails, crate::proofs::Branches::branch_is, crate::proofs::Parts::under, crate::proofs::Branches::bare_is))]
+    #[tactic(auto, using(crate::proofs::Branches::ctor_fails, crate::proofs::Branches::inside_fails, crate::proofs::Branches::branch_is, crate::proofs::Branches::bare_is))]
     fn branch(
         &self,
         names: &NameTable,
@@ -334,8 +332,7 @@ impl Resolver<'_> {
         var: Option<NameId>,
         branch: &SrcBranch,
     ) -> Result<ScopedBranch, ScopeFault>
-        requires var { IsNamed names.now var }
-        requires place { IsPlace names.now self.now binders.now (chain (branch.now ∷ [])) }
+        requires { IsReady self.now }
         ensures { Gives (λ b. scoped_chain (b ∷ [])) result (scoped (around_of names.now self.now) (of_case (case_form form) (text_or_none names.now var)) (bounds names.now binders.now) OfTerm (spelled names.now (chain (branch.now ∷ [])))) }
     {
         let ctor = match self.reference(names, binders, Sort::OfTerm, branch.span, branch.ctor) {

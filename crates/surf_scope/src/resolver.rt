@@ -1,21 +1,21 @@
 //! What the names of a module stand for at a place of it.
-ghost use Rattle.std.specs.Prelude.{◌≡◌, length, map, IfOk};
+ghost use Rattle.std.specs.Prelude.{◌≡◌, IfOk};
 ghost use Rattle.scope_model.specs.Scope.{wanted_as};
 ghost use Rattle.scope_model.specs.ScopeNames.{exported, imported, is_one_of, listed, or_else, prelude, stands, stands_alone, stands_in};
 ghost use Rattle.scoped_tree.specs.Trees.{reference};
 ghost use Rattle.surf_tree.specs.Forms.{name_use, place};
-ghost use Rattle.surf_tree.specs.Items.{import_of};
-ghost use Rattle.surf_scope.specs.Around.{ImportsAreNamed, IsReady, around_of, import_texts};
+ghost use Rattle.surf_scope.specs.Around.{IsReady, around_of, import_texts};
 ghost use Rattle.surf_scope.specs.Entries.{item_standing};
 ghost use Rattle.surf_scope.specs.Known.{exported_all};
-ghost use Rattle.surf_scope.specs.Layers.{AreNamed, bounds};
-ghost use Rattle.surf_scope.specs.Names.{UseIsNamed, spelled_use, standing_of};
+ghost use Rattle.surf_scope.specs.Layers.{bounds};
+ghost use Rattle.surf_scope.specs.Names.{spelled_use, standing_of};
 ghost use Rattle.surf_scope.specs.Results.{Gives};
 
 use crate::binders::{Binders, find_binder};
 use crate::exported::ExportedModule;
 use crate::fault::ScopeFault;
 use crate::index::ItemIndex;
+use crate::names::spelling;
 use cdle_model::Sort;
 use cdle_names::{NameId, NameTable, NoMemory, Span};
 use scoped_tree::Reference;
@@ -51,19 +51,18 @@ fn find_exported(owner: &str, word: &str, modules: &[ExportedModule]) -> Option<
 }
 
 /// The item of the first import that has one.
-#[tactic(auto, unfolding(scope_model::specs::ScopeNames::imported), using(crate::proofs::Finding::text_is))]
+#[tactic(auto, unfolding(scope_model::specs::ScopeNames::imported))]
 fn find_imported(
     names: &NameTable,
     imports: &[(NameId, Span)],
     word: &str,
     modules: &[ExportedModule],
 ) -> Option<(Sort, u32)>
-    requires named { ImportsAreNamed (length names.now) (map import_of imports.now) }
     ensures { item_standing result ≡ imported (import_texts names.now imports.now) word.now (exported_all modules.now) }
 {
     let mut rest = imports;
     'imports: while let Some((import, others)) = rest.split_first() {
-        if let Some(found) = find_exported(names.text(import.0), word, modules) {
+        if let Some(found) = find_exported(spelling(names, import.0), word, modules) {
             return Some(found);
         }
         rest = others;
@@ -72,14 +71,12 @@ fn find_imported(
 }
 
 /// Whether the module is one of the imports.
-#[tactic(auto, using(crate::proofs::Finding::text_is))]
 fn is_import(names: &NameTable, imports: &[(NameId, Span)], owner: &str) -> bool
-    requires { ImportsAreNamed (length names.now) (map import_of imports.now) }
     ensures { result ≡ is_one_of owner.now (import_texts names.now imports.now) }
 {
     let mut rest = imports;
     'owners: while let Some((import, others)) = rest.split_first() {
-        if owner == names.text(import.0) {
+        if owner == spelling(names, import.0) {
             return true;
         }
         rest = others;
@@ -124,8 +121,7 @@ impl Resolver<'_> {
         binders: &Binders<'_>,
         word: &str,
     ) -> Result<Option<(Sort, Reference)>, NoMemory>
-        requires ready { IsReady names.now self.now }
-        requires named { AreNamed names.now binders.now }
+        requires { IsReady self.now }
         ensures { IfOk result (λ found. standing_of found ≡ stands_alone (around_of names.now self.now) (bounds names.now binders.now) word.now) }
     {
         if let Some(found) = find_binder(names, binders, word)? {
@@ -136,7 +132,7 @@ impl Resolver<'_> {
 
     /// The module's item, else the first import's, else the prelude's.
     fn find_item(&self, names: &NameTable, word: &str) -> Option<(Sort, Reference)>
-        requires { IsReady names.now self.now }
+        requires { IsReady self.now }
         ensures { standing_of result ≡ or_else (listed word.now (around_of names.now self.now).first (around_of names.now self.now).own) (or_else (imported (around_of names.now self.now).imports word.now (around_of names.now self.now).modules) (exported prelude word.now (around_of names.now self.now).modules)) }
     {
         if let Some(found) = self.own.find(word, self.first) {
@@ -149,12 +145,11 @@ impl Resolver<'_> {
     }
 
     /// The item of this module, of a direct import or of the prelude.
-    #[tactic(auto, using(crate::proofs::Finding::text_is))]
     fn find_in(&self, names: &NameTable, owner: &str, word: &str) -> Option<(Sort, Reference)>
-        requires ready { IsReady names.now self.now }
+        requires { IsReady self.now }
         ensures { standing_of result ≡ stands_in (around_of names.now self.now) owner.now word.now }
     {
-        if owner == names.text(self.name) {
+        if owner == spelling(names, self.name) {
             return of_item(self.own.find(word, self.first));
         }
         if owner == "prelude" || is_import(names, self.imports, owner) {
@@ -164,22 +159,20 @@ impl Resolver<'_> {
     }
 
     /// What a name stands for.
-    #[tactic(auto, unfolding(scope_model::specs::ScopeNames::stands), using(crate::proofs::Finding::text_is))]
+    #[tactic(auto, unfolding(scope_model::specs::ScopeNames::stands))]
     fn find(
         &self,
         names: &NameTable,
         binders: &Binders<'_>,
         name: NameUse,
     ) -> Result<Option<(Sort, Reference)>, NoMemory>
-        requires ready { IsReady names.now self.now }
-        requires named { AreNamed names.now binders.now }
-        requires used { UseIsNamed (length names.now) (name_use name) }
+        requires { IsReady self.now }
         ensures { IfOk result (λ found. standing_of found ≡ stands (around_of names.now self.now) (bounds names.now binders.now) (spelled_use names.now (name_use name))) }
     {
-        let word = names.text(name.name);
+        let word = spelling(names, name.name);
         match name.module {
             None => self.find_alone(names, binders, word),
-            Some(owner) => Ok(self.find_in(names, names.text(owner), word)),
+            Some(owner) => Ok(self.find_in(names, spelling(names, owner), word)),
         }
     }
 
@@ -192,9 +185,7 @@ impl Resolver<'_> {
         span: Span,
         name: NameUse,
     ) -> Result<Reference, ScopeFault>
-        requires ready { IsReady names.now self.now }
-        requires named { AreNamed names.now binders.now }
-        requires used { UseIsNamed (length names.now) (name_use name) }
+        requires { IsReady self.now }
         ensures { Gives reference result (wanted_as (place span) sort (stands (around_of names.now self.now) (bounds names.now binders.now) (spelled_use names.now (name_use name)))) }
     {
         match self.find(names, binders, name) {

@@ -1,12 +1,9 @@
-use Rattle.std.proofs.Common.{◌≡◌, ◌≤◌, length, map, None}
-use Rattle.surf_tree.specs.Forms.{pattern_of}
-use Rattle.surf_scope.specs.Spelled.{PatternsAreNamed}
+use Rattle.std.proofs.Common.{◌≡◌, ◌≤◌, length, None}
 use Rattle.surf_scope.proofs.Bounds.{so_far}
 use Rattle.surf_scope.proofs.binders.find_in_pattern.Given as goal
 
 abbrev pub invariant-patterns : goal.invariant-patterns
 invariant-patterns l = record {
-  named : PatternsAreNamed (length l.names) (map pattern_of l.rest);
   lower : length l.rest ≤ length l.patterns;
   same : so_far l.word l.index l.names l.rest l.found ≡ so_far l.word l.index l.names l.patterns None;
 }

@@ -3,12 +3,11 @@ use Rattle.scope_model.specs.Scope.{hides, of_case, with_patterns}
 use Rattle.scoped_tree.specs.Trees.{case_form}
 use Rattle.surf_tree.specs.Forms.{pattern_of}
 use Rattle.surf_scope.specs.Names.{text_or_none}
-use Rattle.surf_scope.specs.Spelled.{PatternsAreNamed, spelled_patterns}
+use Rattle.surf_scope.specs.Spelled.{spelled_patterns}
 use Rattle.surf_scope.proofs.binders.is_hidden.Given as goal
 
 abbrev pub invariant-patterns : goal.invariant-patterns
 invariant-patterns l = record {
-  named : PatternsAreNamed (length l.names) (map pattern_of l.rest);
   same : hides l.word (with_patterns (spelled_patterns l.names (map pattern_of l.rest)) (of_case (case_form l.form) (text_or_none l.names l.name))) ≡ hides l.word (with_patterns (spelled_patterns l.names (map pattern_of l.patterns)) (of_case (case_form l.form) (text_or_none l.names l.name)));
 }
 

@@ -5,7 +5,7 @@ use Rattle.scoped_tree.specs.Trees.{case_form, levels}
 use Rattle.surf_tree.specs.Forms.{chain}
 use Rattle.surf_scope.specs.Names.{text_or_none}
 use Rattle.surf_scope.specs.Shapes.{part_tree}
-use Rattle.surf_scope.specs.Spelled.{TreeIsNamed, spelled}
+use Rattle.surf_scope.specs.Spelled.{spelled}
 use Rattle.surf_scope.proofs.first_use.+first.Given as goal
 
 abbrev pub decreases-first_in : goal.decreases-first_in
@@ -29,7 +29,6 @@ decreases-first_in_branch l = 4 * levels l.branch.now.part + 1
 -- the branches that are left
 abbrev pub invariant-first_in_branches-branches : goal.invariant-first_in_branches-branches
 invariant-first_in_branches-branches l = record {
-  named : TreeIsNamed (length l.names) (chain l.rest);
   lower : levels (chain l.rest) ≤ levels (chain l.branches);
   same : first_use l.word (of_case (case_form l.form) (text_or_none l.names l.var)) OfTerm (spelled l.names (chain l.rest)) ≡ first_use l.word (of_case (case_form l.form) (text_or_none l.names l.var)) OfTerm (spelled l.names (chain l.branches));
 }

@@ -7,11 +7,11 @@ use Rattle.surf_tree.specs.Items.{item_of, module_of}
 use Rattle.surf_tree.specs.declared.items.SrcItem.{SrcItem}
 use Rattle.surf_scope.specs.Exports.{known}
 use Rattle.surf_scope.specs.Index.{names_of}
-use Rattle.surf_scope.specs.Modules.{ItemsAreNamed, spelled_item, spelled_items, spelled_module}
+use Rattle.surf_scope.specs.Modules.{spelled_item, spelled_items, spelled_module}
 use Rattle.surf_scope.specs.Modulewise.{around_behind}
 use Rattle.surf_scope.proofs.ItemScope.{total}
 use Rattle.surf_scope.proofs.ModuleScope.{items_on, items_start}
-use Rattle.surf_scope.proofs.Passing.{all_end, all_next, items_end, items_fail, items_named, items_next, numbers_next, total_next}
+use Rattle.surf_scope.proofs.Passing.{all_end, all_next, items_end, items_fail, items_next, numbers_next, total_next}
 use Rattle.surf_scope.proofs.modules.items.Goals as goal
 
 pub items-init : goal.items-init
@@ -23,7 +23,6 @@ items-init c =
     let size : length (names_of c.new-own.result) ≡ 0 = ap length own in
     let few = c.count-first.ensures.fits in
     record {
-      named = subst (λ (l : List SrcItem). ItemsAreNamed (length c.args.names.now) (map item_of l)) (sym c.as_slice-rest.ensures.value) c.requires.2;
       same = ap (λ (l : List SrcItem). items_on (around_behind known_modules written (names_of c.new-own.result)) (map scoped.item_of c.new-items.result.items) (spelled_items c.args.names.now (map item_of l))) c.as_slice-rest.ensures.value
           ∙ ap (λ (o : List Name). items_on (around_behind known_modules written o) (map scoped.item_of c.new-items.result.items) written.items) own ∙ ap (λ (l : List ScopedItem). items_on (around_behind known_modules written []) (map scoped.item_of l) written.items) none ∙ items_start (around known_modules written) written.items;
       given = ap (λ (l : List SrcItem). names_of c.new-own.result ++ all_names (spelled_items c.args.names.now (map item_of l))) c.as_slice-rest.ensures.value ∙ ap (λ (o : List Name). o ++ all_names written.items) own;
@@ -43,7 +42,6 @@ items-preserved c =
     let is = spelled_items c.args.names.now (map item_of c.in-Some.others.now) in
     let names : names_of c.add_item.new.own ≡ names_of c.items.own ++ item_names i = c.in-Ok-add_item.ensures.names ∙ ap (λ (l : List Name). names_of c.items.own ++ l) c.in-Ok.ensures.1 in
     record {
-      named = items_named (length c.args.names.now) c.items.rest.now c.in-Some.item.now c.in-Some.others.now here c.items.invariant.named;
       same = items_next a c.items.items.items c.add_item.new.items.items c.in-Ok.new.item i is (names_of c.add_item.new.own) (scoped_items (around known_modules written) written.items)
           (subst (λ (l : List SrcItem). items_on a (map scoped.item_of c.items.items.items) (spelled_items c.args.names.now (map item_of l)) ≡ scoped_items (around known_modules written) written.items) here c.items.invariant.same) c.in-Ok.ensures.0 c.in-Ok-add_item.ensures.items names;
       given = all_next (names_of c.items.own) (names_of c.add_item.new.own) i is (all_names written.items) (subst (λ (l : List SrcItem). names_of c.items.own ++ all_names (spelled_items c.args.names.now (map item_of l)) ≡ all_names written.items) here c.items.invariant.given) names;

@@ -4,7 +4,7 @@ use Rattle.scoped_tree.specs.Items as scoped
 use Rattle.surf_tree.specs.Items.{item_of, module_of}
 use Rattle.surf_scope.specs.Exports.{known}
 use Rattle.surf_scope.specs.Index.{names_of}
-use Rattle.surf_scope.specs.Modules.{ItemsAreNamed, spelled_items, spelled_module}
+use Rattle.surf_scope.specs.Modules.{spelled_items, spelled_module}
 use Rattle.surf_scope.specs.Modulewise.{around_behind}
 use Rattle.surf_scope.proofs.ItemScope.{total}
 use Rattle.surf_scope.proofs.ModuleScope.{items_on}
@@ -12,7 +12,6 @@ use Rattle.surf_scope.proofs.modules.items.Given as goal
 
 abbrev pub invariant-items : goal.invariant-items
 invariant-items l = record {
-  named : ItemsAreNamed (length l.names) (map item_of l.rest);
   same : items_on (around_behind (known l.exports) (spelled_module l.names (module_of l.«module»)) (names_of l.own)) (map scoped.item_of l.items.items) (spelled_items l.names (map item_of l.rest))
       ≡ scoped_items (around (known l.exports) (spelled_module l.names (module_of l.«module»))) (spelled_items l.names (map item_of l.«module».items.items));
   given : names_of l.own ++ all_names (spelled_items l.names (map item_of l.rest)) ≡ all_names (spelled_items l.names (map item_of l.«module».items.items));

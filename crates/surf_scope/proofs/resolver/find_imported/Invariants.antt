@@ -1,13 +1,11 @@
-use Rattle.std.proofs.Common.{◌≡◌, length, map}
+use Rattle.std.proofs.Common.{◌≡◌, length}
 use Rattle.scope_model.specs.ScopeNames.{imported}
-use Rattle.surf_tree.specs.Items.{import_of}
 use Rattle.surf_scope.specs.Known.{exported_all}
-use Rattle.surf_scope.specs.Around.{ImportsAreNamed, import_texts}
+use Rattle.surf_scope.specs.Around.{import_texts}
 use Rattle.surf_scope.proofs.resolver.find_imported.Given as goal
 
 abbrev pub invariant-imports : goal.invariant-imports
 invariant-imports l = record {
-  named : ImportsAreNamed (length l.names) (map import_of l.rest);
   same : imported (import_texts l.names l.rest) l.word (exported_all l.modules) ≡ imported (import_texts l.names l.imports) l.word (exported_all l.modules);
 }
 

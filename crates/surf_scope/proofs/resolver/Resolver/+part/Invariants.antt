@@ -5,7 +5,6 @@ use Rattle.surf_tree.specs.Forms.{chain}
 use Rattle.surf_scope.specs.Around.{around_of}
 use Rattle.surf_scope.specs.Layers.{bounds}
 use Rattle.surf_scope.specs.Names.{text_or_none}
-use Rattle.surf_scope.specs.Places.{IsPlace}
 use Rattle.surf_scope.specs.Shapes.{part_tree}
 use Rattle.surf_scope.proofs.Branches.{so_far}
 use Rattle.surf_scope.proofs.resolver.Resolver.+part.Given as goal
@@ -34,7 +33,6 @@ decreases-branch l = 4 * levels l.branch.now.part + 1
 -- what is known, and the branches that are left
 abbrev pub invariant-branches-branches : goal.invariant-branches-branches
 invariant-branches-branches l = record {
-  place : IsPlace l.names l.self l.binders (chain l.rest);
   lower : levels (chain l.rest) ≤ levels (chain l.branches);
   same : so_far (around_of l.names l.self) l.names (of_case (case_form l.form) (text_or_none l.names l.var)) (bounds l.names l.binders) l.done.items l.rest ≡ so_far (around_of l.names l.self) l.names (of_case (case_form l.form) (text_or_none l.names l.var)) (bounds l.names l.binders) [] l.branches;
 }

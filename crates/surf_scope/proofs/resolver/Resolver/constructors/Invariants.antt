@@ -5,13 +5,12 @@ use Rattle.surf_tree.specs.Items.{constructor_of}
 use Rattle.surf_scope.specs.Around.{around_of}
 use Rattle.surf_scope.specs.Data.{constructors_on, given_names, names_behind}
 use Rattle.surf_scope.specs.Layers.{bounds}
-use Rattle.surf_scope.specs.Modules.{ConstructorsAreNamed, spelled_constructor}
+use Rattle.surf_scope.specs.Modules.{spelled_constructor}
 use Rattle.surf_scope.specs.Passed.{taken_of}
 use Rattle.surf_scope.proofs.resolver.Resolver.constructors.Given as goal
 
 abbrev pub invariant-ctors : goal.invariant-ctors
 invariant-ctors l = record {
-  named : ConstructorsAreNamed (length l.names) (map constructor_of l.rest);
   same : constructors_on (around_of l.names l.self) (bounds l.names l.binders) (taken_of l.given (around_of l.names l.self)) (map scoped.constructor_of l.done.items) (map (spelled_constructor l.names) (map constructor_of l.rest))
       ≡ constructors (around_of l.names l.self) (bounds l.names l.binders) (taken_of l.fn.start (around_of l.names l.self)) (map (spelled_constructor l.names) (map constructor_of l.ctors));
   given : given_names l.given ++ constructor_names (map (spelled_constructor l.names) (map constructor_of l.rest)) ≡ given_names l.fn.start ++ constructor_names (map (spelled_constructor l.names) (map constructor_of l.ctors));
