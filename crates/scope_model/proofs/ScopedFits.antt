@@ -1,20 +1,16 @@
 -- A tree whose scope is known fits it.
-use Rattle.std.proofs.Common.{◌≡◌, ℕ, suc, ◌+◌, Bool, true, false, if◌then◌else◌, List, [], ◌∷◌, ◌++◌, Option, Some, None, Result, Ok, Err, length, map, ◌⊎◌, inl, inr, refl, sym, ap, subst, ◌∙◌, arith, append_assoc, length-append}
-use Rattle.std.proofs.lemmas.List.{append-nil}
+use Rattle.std.proofs.Common.{◌≡◌, Bool, true, false, if◌then◌else◌, List, [], ◌∷◌, ◌++◌, Option, Some, None, Ok, Err, ◌⊎◌, inl, inr, refl, sym, ap, subst}
 use Rattle.std.proofs.lemmas.Slice.Eq.{bytes_eq-Decides}
 use Rattle.cdle_model.specs.declared.grammar.Sort.{Sort}
 use Rattle.cdle_model.specs.declared.grammar.Sort.TheVariants.{OfTerm, OfType}
-use Rattle.cdle_model.specs.CoreNames.{Name, same_sort}
-use Rattle.source_model.specs.Source.{Span, use_of, leaf, one, two, bind, cases, branch, SourceBinder, pi_of, all_of, allt_of, tlam_of, xtlam_of, iota_of, kpi_of, kpit_of, lam_of, elam_of, xlam_of, unclassed_of, guide_of, CaseForm, mu_of, sigma_of, Pattern, Parameter, Constructor, def_item, type_item, data_item, NameUse, Tree, Item, Module}
-use Rattle.scope_model.specs.Scoped.{Reference, Scoped, ScopedItem, ScopedModule}
-use Rattle.scope_model.specs.ScopeNames.{Text, Binding, Variable, Bound, Exported, Around, Standing, is_called, stands}
-use Rattle.scope_model.specs.Scope.{ScopeFault, ◌>>=◌, left_sort, right_sort, domain_sort, body_sort, binder_sort, mode_sort, of_case, with_patterns, with_parameters, is_use, first_of_two, unless_hidden, hides, first_use, classed, with_class, wanted_as, bare, scoped, generated, of_sort, constructor_names, item_names, unless_taken, meets, texts, parameters, constructors, written, scoped_item, scoped_items, scoped_module, around, count, all_names, with_module}
-use Rattle.scope_model.specs.ScopeFits.{Binders, binding_of, IsOfSort, case_bindings, under_patterns, under_parameters, FitsScope, ParametersFit, ConstructorsFit, ItemFits, ItemsFit, item_sorts, AreNumbered, sorts, known_sorts}
+use Rattle.cdle_model.specs.CoreNames.{same_sort}
+use Rattle.source_model.specs.Source.{Span, use_of, leaf, one, two, bind, cases, branch, SourceBinder, pi_of, all_of, allt_of, tlam_of, xtlam_of, iota_of, kpi_of, kpit_of, lam_of, elam_of, xlam_of, unclassed_of, guide_of, CaseForm, mu_of, sigma_of, Pattern, NameUse, Tree}
+use Rattle.scope_model.specs.Scoped.{Reference, Scoped}
+use Rattle.scope_model.specs.ScopeNames.{Text, Variable, Bound, Around, Standing, is_called, stands}
+use Rattle.scope_model.specs.Scope.{ScopeFault, ◌>>=◌, left_sort, right_sort, domain_sort, body_sort, binder_sort, mode_sort, of_case, with_patterns, is_use, first_of_two, unless_hidden, hides, first_use, classed, with_class, wanted_as, bare, scoped}
+use Rattle.scope_model.specs.ScopeFits.{Binders, binding_of, IsOfSort, case_bindings, under_patterns, FitsScope}
+use Rattle.scope_model.proofs.Results.{and_then}
 use Rattle.scope_model.proofs.Standings.{binders, IsSeen, AreSeen, all_seen, still_seen, seen_under, IsAround, stands_fits}
-
-and_then : {A B : Type 0} (r : Result A ScopeFault) (f : A → Result B ScopeFault) (y : B) → (r >>= f) ≡ Ok y → (x : A) × (r ≡ Ok x) × (f x ≡ Ok y)
-and_then (Ok x) f y e = (x, refl, e)
-and_then (Err g) f y e = absurd cc
 
 same_is : (s t : Sort) → same_sort s t ≡ true → s ≡ t
 same_is OfTerm OfTerm e = refl
@@ -142,8 +138,11 @@ binder_seen unclassed_of (Some x) u = class_seen x (first_use x [] OfTerm u) u r
 -- under a binder, which hides its name
 under_binder : (bs : List Bound) (vs : Binders) (f : SourceBinder) (x : Option Text) (t u : Tree Text) → AreSeen (λ y. first_of_two (first_use y [] (domain_sort f) t) (unless_hidden (is_called y x) (first_use y [] (body_sort f) u)) ≡ None) bs vs
     → AreSeen (Unused [] (body_sort f) u) (record { name = x; binding = Variable (binder_sort (with_class f x u)) } ∷ bs) (binding_of (with_class f x u) ∷ vs)
-under_binder bs vs f x t u s = (binder_seen f x u, still_seen _ (λ y. (is_called y x ≡ true) ⊎ (first_use y [] (body_sort f) u ≡ None)) bs vs
-    (λ y e. hidden_or_none (is_called y x) (first_use y [] (body_sort f) u) (second_none (first_use y [] (domain_sort f) t) _ e)) s)
+under_binder bs vs f x t u s = (
+  binder_seen f x u,
+  still_seen _ (λ y. (is_called y x ≡ true) ⊎ (first_use y [] (body_sort f) u ≡ None)) bs vs
+      (λ y e. hidden_or_none (is_called y x) (first_use y [] (body_sort f) u) (second_none (first_use y [] (domain_sort f) t) _ e)) s,
+)
 
 -- the uses of a branch, of its part and of the branches behind it
 abbrev branch_use : List Bound → NameUse Text → List (Pattern (Option Text)) → Tree Text → Tree Text → Text → Option Sort
@@ -211,134 +210,12 @@ scoped_fits a xs h ob bs vs s (branch p c ps t us) v seen e =
     let k = and_then (scoped a ob bs OfTerm us) (λ ws. Ok (branch p n.0 (bare ps) r.0 ws)) v r.2 in
     let same : branch p n.0 (bare ps) r.0 k.0 ≡ v = cc in
     let one = scoped_fits a xs h [] (with_patterns ps (ob ++ bs)) (under_patterns (bare ps) (binders ob ++ vs)) OfTerm t r.0 (under_pattern ob bs vs c ps t us seen) r.1 in
-    subst (FitsScope (binders ob) vs xs s) same
-    (name_fits a xs bs vs p OfTerm c n.0 (λ y. branch_use ob c ps t us y ≡ None) h seen (λ b z. not_used (is_use c.name c) OfTerm b (first_none (if is_use c.name c then Some OfTerm else None) _ z)) n.1, one,
-    scoped_fits a xs h ob bs vs OfTerm us k.0 (behind_branch ob bs vs c ps t us seen) k.1)
+    subst (FitsScope (binders ob) vs xs s) same (
+      name_fits a xs bs vs p OfTerm c n.0 (λ y. branch_use ob c ps t us y ≡ None) h seen (λ b z. not_used (is_use c.name c) OfTerm b (first_none (if is_use c.name c then Some OfTerm else None) _ z)) n.1,
+      one,
+      scoped_fits a xs h ob bs vs OfTerm us k.0 (behind_branch ob bs vs c ps t us seen) k.1,
+    )
 
 -- under binders all of which it may use
-open_fits : (a : Around) (xs : List Sort) → IsAround a xs → (bs : List Bound) (s : Sort) (t : Tree Text) (v : Scoped) → scoped a [] bs s t ≡ Ok v → FitsScope [] (binders bs) xs s v
+pub open_fits : (a : Around) (xs : List Sort) → IsAround a xs → (bs : List Bound) (s : Sort) (t : Tree Text) (v : Scoped) → scoped a [] bs s t ≡ Ok v → FitsScope [] (binders bs) xs s v
 open_fits a xs h bs s t v e = scoped_fits a xs h [] bs (binders bs) s t v (all_seen (Unused [] s t) bs) e
-
--- ---- items
-
-taken_case : {A : Type 0} (b : Bool) (g : ScopeFault) (r : Result A ScopeFault) (x : A) → (if b then Err g else r) ≡ Ok x → r ≡ Ok x
-taken_case true g r x e = absurd cc
-taken_case false g r x e = e
-
-not_taken : {A : Type 0} (p : Span) (ns taken : List Text) (r : Result A ScopeFault) (x : A) → unless_taken p ns taken r ≡ Ok x → r ≡ Ok x
-not_taken p ns taken r x e = taken_case (meets ns taken) _ r x e
-
-parameters_fit : (a : Around) (xs : List Sort) → IsAround a xs → (bs : List Bound) (ps : List (Parameter (Option Text) (NameUse Text))) (qs : List (Parameter (Unit {0}) Reference)) → parameters a bs ps ≡ Ok qs → ParametersFit (binders bs) xs qs
-parameters_fit a xs h bs [] qs e = let same : [] ≡ qs = cc in subst (ParametersFit (binders bs) xs) same tt
-parameters_fit a xs h bs (p ∷ ps) qs e =
-    let b : Bound = record { name = p.binder; binding = Variable p.sort } in
-    let k = and_then (scoped a [] bs OfType p.class) _ qs e in
-    let r = and_then (parameters a (b ∷ bs) ps) (λ rs. Ok (record { span = p.span; binder = tt; sort = p.sort; class = k.0 } ∷ rs)) qs k.2 in
-    let same : (record { span = p.span; binder = tt; sort = p.sort; class = k.0 }) ∷ r.0 ≡ qs = cc in
-    subst (ParametersFit (binders bs) xs) same (open_fits a xs h bs OfType p.class k.0 k.1, parameters_fit a xs h (b ∷ bs) ps r.0 r.1)
-
-constructors_fit : (a : Around) (xs : List Sort) → IsAround a xs → (bs : List Bound) (taken : List Text) (cs : List (Constructor Text (Option Text) (NameUse Text))) (ds : List (Constructor Text (Unit {0}) Reference)) → constructors a bs taken cs ≡ Ok ds → ConstructorsFit (binders bs) xs ds
-constructors_fit a xs h bs taken [] ds e = let same : [] ≡ ds = cc in subst (ConstructorsFit (binders bs) xs) same tt
-constructors_fit a xs h bs taken (c ∷ cs) ds e =
-    let f = not_taken c.span (c.name ∷ []) taken _ ds e in
-    let k = and_then (scoped a [] bs OfType c.type) _ ds f in
-    let r = and_then (constructors a bs (c.name ∷ taken) cs) (λ rs. Ok (record { span = c.span; name = written a c.name; type = k.0 } ∷ rs)) ds k.2 in
-    let same : (record { span = c.span; name = written a c.name; type = k.0 }) ∷ r.0 ≡ ds = cc in
-    subst (ConstructorsFit (binders bs) xs) same (open_fits a xs h bs OfType c.type k.0 k.1, constructors_fit a xs h bs (c.name ∷ taken) cs r.0 r.1)
-
-binders-parameters : (a : Around) (ps : List (Parameter (Option Text) (NameUse Text))) (bs : List Bound) (qs : List (Parameter (Unit {0}) Reference)) → parameters a bs ps ≡ Ok qs → (cs : List Bound) → binders (with_parameters ps cs) ≡ under_parameters qs (binders cs)
-binders-parameters a [] bs qs e cs = let same : [] ≡ qs = cc in subst (λ (l : List (Parameter (Unit {0}) Reference)). binders cs ≡ under_parameters l (binders cs)) same refl
-binders-parameters a (p ∷ ps) bs qs e cs =
-    let b : Bound = record { name = p.binder; binding = Variable p.sort } in
-    let k = and_then (scoped a [] bs OfType p.class) _ qs e in
-    let r = and_then (parameters a (b ∷ bs) ps) (λ rs. Ok (record { span = p.span; binder = tt; sort = p.sort; class = k.0 } ∷ rs)) qs k.2 in
-    let same : (record { span = p.span; binder = tt; sort = p.sort; class = k.0 }) ∷ r.0 ≡ qs = cc in
-    subst (λ (l : List (Parameter (Unit {0}) Reference)). binders (with_parameters (p ∷ ps) cs) ≡ under_parameters l (binders cs)) same (binders-parameters a ps (b ∷ bs) r.0 r.1 (b ∷ cs))
-
-constructor_sorts : (a : Around) (bs : List Bound) (taken : List Text) (cs : List (Constructor Text (Option Text) (NameUse Text))) (ds : List (Constructor Text (Unit {0}) Reference)) → constructors a bs taken cs ≡ Ok ds → map (λ d. OfTerm) ds ≡ sorts (constructor_names cs)
-constructor_sorts a bs taken [] ds e = let same : [] ≡ ds = cc in subst (λ (l : List (Constructor Text (Unit {0}) Reference)). map (λ d. OfTerm) l ≡ []) same refl
-constructor_sorts a bs taken (c ∷ cs) ds e =
-    let f = not_taken c.span (c.name ∷ []) taken _ ds e in
-    let k = and_then (scoped a [] bs OfType c.type) _ ds f in
-    let r = and_then (constructors a bs (c.name ∷ taken) cs) (λ rs. Ok (record { span = c.span; name = written a c.name; type = k.0 } ∷ rs)) ds k.2 in
-    let same : (record { span = c.span; name = written a c.name; type = k.0 }) ∷ r.0 ≡ ds = cc in
-    subst (λ (l : List (Constructor Text (Unit {0}) Reference)). map (λ d. OfTerm) l ≡ sorts (constructor_names (c ∷ cs))) same (ap (λ (l : List Sort). OfTerm ∷ l) (constructor_sorts a bs (c.name ∷ taken) cs r.0 r.1))
-
-sorts-append : (xs ys : List Name) → sorts (xs ++ ys) ≡ sorts xs ++ sorts ys
-sorts-append [] ys = refl
-sorts-append (x ∷ xs) ys = ap (λ (l : List Sort). x.sort ∷ l) (sorts-append xs ys)
-
--- an item fits, and gives items of its names' sorts
-abbrev Placed : List Sort → Item Text → ScopedItem → Type 0
-Placed xs i j = ItemFits xs j × (item_sorts j ≡ sorts (item_names i))
-
-item_fits : (a : Around) (xs : List Sort) → IsAround a xs → (i : Item Text) (j : ScopedItem) → scoped_item a i ≡ Ok j → Placed xs i j
-item_fits a xs h (def_item p x t u) j e =
-    let f = not_taken p (x ∷ []) (texts a.own) _ j e in
-    let k = and_then (scoped a [] [] OfType t) (λ v. scoped a [] [] OfTerm u >>= λ w. Ok (def_item p (written a x) v w)) j f in
-    let r = and_then (scoped a [] [] OfTerm u) (λ w. Ok (def_item p (written a x) k.0 w)) j k.2 in
-    let same : def_item p (written a x) k.0 r.0 ≡ j = cc in
-    subst (Placed xs (def_item p x t u)) same ((open_fits a xs h [] OfType t k.0 k.1, open_fits a xs h [] OfTerm u r.0 r.1), refl)
-item_fits a xs h (type_item p x t u) j e =
-    let f = not_taken p (x ∷ []) (texts a.own) _ j e in
-    let k = and_then (scoped a [] [] OfType t) (λ v. scoped a [] [] OfType u >>= λ w. Ok (type_item p (written a x) v w)) j f in
-    let r = and_then (scoped a [] [] OfType u) (λ w. Ok (type_item p (written a x) k.0 w)) j k.2 in
-    let same : type_item p (written a x) k.0 r.0 ≡ j = cc in
-    subst (Placed xs (type_item p x t u)) same ((open_fits a xs h [] OfType t k.0 k.1, open_fits a xs h [] OfType u r.0 r.1), refl)
-item_fits a xs h (data_item p d ps cs) j e =
-    let b : Bound = record { name = Some d; binding = Variable OfType } in
-    let taken : List Text = generated d ++ texts a.own in
-    let f = not_taken p (generated d) (texts a.own) _ j e in
-    let k = and_then (parameters a [] ps) (λ qs. constructors a (b ∷ with_parameters ps []) taken cs >>= λ ds. Ok (data_item p (written a d) qs ds)) j f in
-    let r = and_then (constructors a (b ∷ with_parameters ps []) taken cs) (λ ds. Ok (data_item p (written a d) k.0 ds)) j k.2 in
-    let same : data_item p (written a d) k.0 r.0 ≡ j = cc in
-    let fit = constructors_fit a xs h (b ∷ with_parameters ps []) taken cs r.0 r.1 in
-    let all : item_sorts (data_item p (written a d) k.0 r.0) ≡ sorts (item_names (data_item p d ps cs)) =
-    ap (λ (l : List Sort). OfType ∷ OfTerm ∷ OfType ∷ (l ++ (OfTerm ∷ OfTerm ∷ []))) (constructor_sorts a (b ∷ with_parameters ps []) taken cs r.0 r.1)
-    ∙ ap (λ (l : List Sort). OfType ∷ OfTerm ∷ OfType ∷ l) (sym (sorts-append (constructor_names cs) (of_sort OfTerm _ ∷ of_sort OfTerm _ ∷ []))) in
-    subst (Placed xs (data_item p d ps cs)) same ((parameters_fit a xs h [] ps k.0 k.1, subst (λ (l : Binders). ConstructorsFit (Some (Variable OfType) ∷ l) xs r.0) (binders-parameters a ps [] k.0 k.1 []) fit), all)
-
-items_fit : (a : Around) (xs : List Sort) → IsAround a xs → (is : List (Item Text)) (js : List ScopedItem) → scoped_items a is ≡ Ok js → ItemsFit xs js
-unfolding scoped_items
-items_fit a xs h [] js e = let same : [] ≡ js = cc in subst (ItemsFit xs) same tt
-items_fit a xs h (i ∷ is) js e =
-    let b : Around = record a { own = a.own ++ item_names i } in
-    let j = and_then (scoped_item a i) (λ j. scoped_items b is >>= λ ks. Ok (j ∷ ks)) js e in
-    let ks = and_then (scoped_items b is) (λ ks. Ok (j.0 ∷ ks)) js j.2 in
-    let same : j.0 ∷ ks.0 ≡ js = cc in
-    let one = item_fits a xs h i j.0 j.1 in
-    let all : xs ++ item_sorts j.0 ≡ known_sorts a.modules ++ sorts (a.own ++ item_names i) =
-    (λ k. h.all k ++ one.1 k) ∙ append_assoc (known_sorts a.modules) (sorts a.own) (sorts (item_names i)) ∙ ap (λ (l : List Sort). known_sorts a.modules ++ l) (sym (sorts-append a.own (item_names i))) in
-    subst (ItemsFit xs) same (one.0, items_fit b (xs ++ item_sorts j.0) (record { numbered = h.numbered; first = h.first; all = all }) is ks.0 ks.1)
-
--- ---- modules
-
-length-sorts : (ys : List Name) → length (sorts ys) ≡ length ys
-length-sorts [] = refl
-length-sorts (y ∷ ys) = ap (λ (n : ℕ). suc n) (length-sorts ys)
-
-count-known : (ys : List Exported) → count ys ≡ length (known_sorts ys)
-count-known [] = refl
-count-known (y ∷ ys) = omega (arith, count-known ys, length-sorts y.items, length-append (sorts y.items) (known_sorts ys))
-
-good : ScopedModule → Result ScopedModule ScopeFault
-good q = Ok q
-
-ok_items : (q r : ScopedModule) → good q ≡ good r → q.items ≡ r.items
-unfolding good
-ok_items q r e = let same : q ≡ r = cc in ap (λ (x : ScopedModule). x.items) same
-
-pub module_fits : (known : List Exported) (m : Module Text) (r : ScopedModule) → AreNumbered 0 known → scoped_module known m ≡ Ok r → ItemsFit (known_sorts known) r.items
-unfolding good
-module_fits known m r n e =
-    let is = and_then (scoped_items (around known m) m.items) (λ is. Ok (record { first = count known; items = is })) r e in
-    let same : is.0 ≡ r.items = ok_items (record { first = count known; items = is.0 }) r is.2 in
-    let all : known_sorts known ≡ known_sorts known ++ [] = sym (append-nil (known_sorts known)) in
-    subst (ItemsFit (known_sorts known)) same (items_fit (around known m) (known_sorts known) (record { numbered = n; first = count-known known; all = all }) m.items is.0 is.1)
-
-numbered_more : (n : ℕ) (known : List Exported) (y : Exported) → AreNumbered n known → y.first ≡ n + count known → AreNumbered n (known ++ (y ∷ []))
-numbered_more n [] y a e = (omega (arith, e), tt)
-numbered_more n (x ∷ xs) y a e = (a.0, numbered_more (n + length x.items) xs y a.1 (omega (arith, e)))
-
-pub modules_numbered : (known : List Exported) (m : Module Text) → AreNumbered 0 known → AreNumbered 0 (with_module known m)
-modules_numbered known m a = numbered_more 0 known (record { name = m.name; first = count known; items = all_names m.items }) a (omega arith)

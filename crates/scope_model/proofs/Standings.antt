@@ -61,8 +61,11 @@ not_hidden (inr q) = q
 -- a part under more binders, which hide what is called so
 pub seen_under : (Q : Text → Type 0) (more bs : List Bound) (vs : Binders) → AreSeen (λ x. (hides x more ≡ true) ⊎ Q x) bs vs → AreSeen Q (more ++ bs) (binders more ++ vs)
 seen_under Q [] bs vs s = still_seen (λ x. (hides x [] ≡ true) ⊎ Q x) Q bs vs (λ x q. not_hidden q) s
-seen_under Q (n ∷ more) bs vs s = (refl, seen_under (λ x. (is_called x n.name ≡ true) ⊎ Q x) more bs vs
-    (still_seen (λ x. (hides x (n ∷ more) ≡ true) ⊎ Q x) (λ x. (hides x more ≡ true) ⊎ ((is_called x n.name ≡ true) ⊎ Q x)) bs vs (λ x q. is_hidden (is_called x n.name) (hides x more) q) s))
+seen_under Q (n ∷ more) bs vs s = (
+  refl,
+  seen_under (λ x. (is_called x n.name ≡ true) ⊎ Q x) more bs vs
+      (still_seen (λ x. (hides x (n ∷ more) ≡ true) ⊎ Q x) (λ x. (hides x more ≡ true) ⊎ ((is_called x n.name ≡ true) ⊎ Q x)) bs vs (λ x q. is_hidden (is_called x n.name) (hides x more) q) s),
+)
 
 -- ---- a name of a binder
 

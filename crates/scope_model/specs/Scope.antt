@@ -6,7 +6,7 @@ use Rattle.cdle_model.specs.declared.grammar.Sort.TheVariants.{OfTerm, OfType}
 use Rattle.cdle_model.specs.CoreNames.{Name, same_sort}
 use Rattle.cdle_model.specs.declared.grammar.Mode.{Mode}
 use Rattle.cdle_model.specs.declared.grammar.Mode.TheVariants as modes
-use Rattle.source_model.specs.Source.{Span, use_of, leaf, one, two, bind, cases, branch, SourceTwo, tapp_of, at_of, on_of, delta_of, chi_of, SourceBinder, allt_of, xtlam_of, kpit_of, lam_of, elam_of, xlam_of, unclassed_of, guide_of, CaseForm, mu_of, sigma_of, Pattern, Parameter, Constructor, def_item, type_item, data_item, NameUse, Tree, Item, Module}
+use Rattle.source_model.specs.Source.{Span, use_of, leaf, one, two, bind, cases, branch, SourceTwo, tapp_of, at_of, on_of, delta_of, chi_of, SourceBinder, allt_of, xtlam_of, kpit_of, lam_of, elam_of, xlam_of, unclassed_of, guide_of, CaseForm, mu_of, sigma_of, Pattern, Parameter, Constructor, SourceItem, def_item, type_item, data_item, NameUse, Tree, Item, Module}
 use Rattle.scope_model.specs.Scoped.{Reference, Scoped, ScopedItem, ScopedModule}
 use Rattle.scope_model.specs.ScopeNames.{Text, Bound, Variable, Proof, Exported, Around, Standing, is_called, is_one_of, stands}
 
@@ -158,11 +158,11 @@ generated d = (d ++ codes "/F") ∷ (d ++ codes "/mono") ∷ d ∷ (d ++ codes "
 abbrev pub of_sort : Sort → Text → Name
 of_sort s x = record { text = x; sort = s }
 
-abbrev pub constructor_names : List (Constructor Text (Option Text) (NameUse Text)) → List Name
+abbrev pub constructor_names : {B N : Type 0} → List (Constructor Text B N) → List Name
 constructor_names cs = map (λ c. of_sort OfTerm c.name) cs
 
 -- the names that an item gives, in the order of its Core items
-abbrev pub item_names : Item Text → List Name
+abbrev pub item_names : {B N : Type 0} → SourceItem Text B N → List Name
 item_names (def_item p x t u) = of_sort OfTerm x ∷ []
 item_names (type_item p x t u) = of_sort OfType x ∷ []
 item_names (data_item p d ps cs) = of_sort OfType (d ++ codes "/F") ∷ of_sort OfTerm (d ++ codes "/mono") ∷ of_sort OfType d ∷ (constructor_names cs ++ (of_sort OfTerm (d ++ codes "/mu") ∷ of_sort OfTerm (d ++ codes "/sigma") ∷ []))
@@ -210,7 +210,8 @@ abbrev pub count : List Exported → ℕ
 count [] = 0
 count (x ∷ xs) = length x.items + count xs
 
-abbrev pub all_names : List (Item Text) → List Name
+-- the names of all Core items that these give
+abbrev pub all_names : {B N : Type 0} → List (SourceItem Text B N) → List Name
 all_names [] = []
 all_names (i ∷ is) = item_names i ++ all_names is
 

@@ -6,7 +6,7 @@ use Rattle.cdle_model.specs.CoreNames.{Name}
 use Rattle.source_model.specs.Source.{use_of, leaf, one, two, bind, cases, branch, SourceBinder, unclassed_of, CaseForm, mu_of, sigma_of, Pattern, Parameter, Constructor, def_item, type_item, data_item}
 use Rattle.scope_model.specs.Scoped.{Reference, variable, item, cast, Scoped, ScopedItem}
 use Rattle.scope_model.specs.ScopeNames.{Binding, Variable, Proof, Exported}
-use Rattle.scope_model.specs.Scope.{left_sort, right_sort, domain_sort, body_sort, binder_sort, mode_sort}
+use Rattle.scope_model.specs.Scope.{left_sort, right_sort, domain_sort, body_sort, binder_sort, mode_sort, item_names}
 
 -- the binders around a place, the innermost first: what each binds, or none where no name may stand for it
 abbrev pub Binders : Type 0
@@ -66,21 +66,14 @@ ItemFits xs (def_item p x t u) = FitsScope [] [] xs OfType t × FitsScope [] [] 
 ItemFits xs (type_item p x t u) = FitsScope [] [] xs OfType t × FitsScope [] [] xs OfType u
 ItemFits xs (data_item p d ps cs) = ParametersFit [] xs ps × ConstructorsFit (Some (Variable OfType) ∷ under_parameters ps []) xs cs
 
--- the sorts of the Core items that an item gives
-abbrev pub item_sorts : ScopedItem → List Sort
-item_sorts (def_item p x t u) = OfTerm ∷ []
-item_sorts (type_item p x t u) = OfType ∷ []
-item_sorts (data_item p d ps cs) = OfType ∷ OfTerm ∷ OfType ∷ (map (λ c. OfTerm) cs ++ (OfTerm ∷ OfTerm ∷ []))
-
--- the sorts of the Core items that items give
-abbrev pub all_sorts : List ScopedItem → List Sort
-all_sorts [] = []
-all_sorts (i ∷ is) = item_sorts i ++ all_sorts is
+-- whether each name is a term's or a type's
+abbrev pub sorts : List Name → List Sort
+sorts xs = map (λ x. x.sort) xs
 
 -- each item behind those before it
 abbrev pub ItemsFit : List Sort → List ScopedItem → Type 0
 ItemsFit xs [] = Unit {0}
-ItemsFit xs (i ∷ is) = ItemFits xs i × ItemsFit (xs ++ item_sorts i) is
+ItemsFit xs (i ∷ is) = ItemFits xs i × ItemsFit (xs ++ sorts (item_names i)) is
 
 -- ---- modules
 
@@ -88,10 +81,6 @@ ItemsFit xs (i ∷ is) = ItemFits xs i × ItemsFit (xs ++ item_sorts i) is
 abbrev pub AreNumbered : ℕ → List Exported → Type 0
 AreNumbered n [] = Unit {0}
 AreNumbered n (x ∷ xs) = (x.first ≡ n) × AreNumbered (n + length x.items) xs
-
--- whether each name is a term's or a type's
-abbrev pub sorts : List Name → List Sort
-sorts xs = map (λ x. x.sort) xs
 
 -- the sorts of the Core items of all modules that are known
 abbrev pub known_sorts : List Exported → List Sort

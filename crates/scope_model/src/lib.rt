@@ -7,4 +7,7 @@
 
 mod scope_laws;
 
-pub use scope_laws::{known_modules_are_numbered, scoped_module_fits};
+pub use scope_laws::{
+    item_names_differ, known_modules_are_numbered, module_is_scoped_or_faulty,
+    scoped_items_follow_known, scoped_module_fits,
+};
