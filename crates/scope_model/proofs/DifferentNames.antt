@@ -1,5 +1,6 @@
 -- The names of a module's items differ from one another.
 use Rattle.std.proofs.Common.{◌≡◌, Bool, true, false, ◌||◌, if◌then◌else◌, List, [], ◌∷◌, ◌++◌, Option, Some, Ok, map, ◌⊎◌, inl, inr, refl, sym, ap, subst, ◌∙◌, codes, eq-eqb}
+use Rattle.std.specs.List.{AllByRecursion, IsDistinct}
 use Rattle.std.specs.Str.{bytes_eq}
 use Rattle.std.proofs.lemmas.List.{append-nil}
 use Rattle.std.proofs.lemmas.Slice.Eq.{bytes_eq-Decides}
@@ -9,11 +10,16 @@ use Rattle.source_model.specs.Source.{Constructor, def_item, type_item, data_ite
 use Rattle.scope_model.specs.Scoped.{Reference, ScopedItem, ScopedModule}
 use Rattle.scope_model.specs.ScopeNames.{Text, Variable, Bound, Exported, Around, is_one_of}
 use Rattle.scope_model.specs.Scope.{◌>>=◌, with_parameters, scoped, generated, constructor_names, item_names, all_names, meets, texts, written, parameters, constructors, scoped_item, scoped_items, scoped_module, around}
-use Rattle.scope_model.specs.ItemNames.{as_written, AreDifferent}
+use Rattle.scope_model.specs.ItemNames.{as_written}
 use Rattle.scope_model.proofs.Results.{and_then, not_taken, none_taken}
 use Rattle.scope_model.proofs.ItemsNamed.{module_items, module_named}
 
 -- ---- lists of names
+
+-- each is none of those behind it
+abbrev AreDifferent : List Text → Type 0
+AreDifferent [] = Unit {0}
+AreDifferent (x ∷ xs) = (is_one_of x xs ≡ false) × AreDifferent xs
 
 -- no text is one of both
 abbrev AreApart : List Text → List Text → Type 0
@@ -200,8 +206,21 @@ written_differ : (a : Around) (xs : List Name) → AreDifferent (texts xs) → A
 written_differ a [] d = tt
 written_differ a (x ∷ xs) d = (written_one a x.text xs ∙ d.0, written_differ a xs d.1)
 
-pub names_differ : (known : List Exported) (m : Module Text) (r : ScopedModule) → scoped_module known m ≡ Ok r → AreDifferent (texts (all_names m.items))
-names_differ known m r e = (items_new (around known m) m.items r.items (module_items known m r e).1).1
+none_of : (x : Text) (xs : List Text) → is_one_of x xs ≡ false → AllByRecursion (λ y. bytes_eq x y ≡ false) xs
+none_of x [] e = tt
+none_of x (y ∷ xs) e = let b = or_false (bytes_eq x y) (is_one_of x xs) e in (b.0, none_of x xs b.1)
 
-pub written_names_differ : (known : List Exported) (m : Module Text) (r : ScopedModule) → scoped_module known m ≡ Ok r → AreDifferent (texts (all_names r.items))
-written_names_differ known m r e = subst (λ (l : List Name). AreDifferent (texts l)) (sym (module_named known m r e)) (written_differ (around known m) (all_names m.items) (names_differ known m r e))
+distinct : (xs : List Text) → AreDifferent xs → IsDistinct bytes_eq xs
+unfolding IsDistinct
+distinct [] d = tt
+distinct (x ∷ xs) d = (none_of x xs d.0, distinct xs d.1)
+
+differ : (known : List Exported) (m : Module Text) (r : ScopedModule) → scoped_module known m ≡ Ok r → AreDifferent (texts (all_names m.items))
+differ known m r e = (items_new (around known m) m.items r.items (module_items known m r e).1).1
+
+pub names_differ : (known : List Exported) (m : Module Text) (r : ScopedModule) → scoped_module known m ≡ Ok r → IsDistinct bytes_eq (texts (all_names m.items))
+names_differ known m r e = distinct (texts (all_names m.items)) (differ known m r e)
+
+pub written_names_differ : (known : List Exported) (m : Module Text) (r : ScopedModule) → scoped_module known m ≡ Ok r → IsDistinct bytes_eq (texts (all_names r.items))
+written_names_differ known m r e = subst (λ (l : List Name). IsDistinct bytes_eq (texts l)) (sym (module_named known m r e))
+    (distinct (texts (map (as_written (around known m)) (all_names m.items))) (written_differ (around known m) (all_names m.items) (differ known m r e)))

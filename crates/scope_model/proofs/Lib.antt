@@ -5,3 +5,6 @@ pub mod ItemsNamed
 pub mod ScopedItems
 pub mod OneScope
 pub mod DifferentNames
+pub mod SaidNames
+pub mod TokenNames
+pub mod WordNames

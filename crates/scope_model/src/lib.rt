@@ -8,6 +8,6 @@
 mod scope_laws;
 
 pub use scope_laws::{
-    item_names_differ, known_modules_are_numbered, module_is_scoped_or_faulty,
+    item_names_differ, known_modules_are_numbered, module_is_scoped_or_faulty, names_are_parts_of_words,
     scoped_items_follow_known, scoped_module_fits,
 };

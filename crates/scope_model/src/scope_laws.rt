@@ -1,11 +1,17 @@
 //! The laws of scope. Each is the contract of a function with an empty body.
-ghost use Rattle.std.specs.Prelude.{◌≡◌, ◌⊎◌, ◌++◌, List, length, map, Err, Ok};
+ghost use Rattle.std.specs.Prelude.{◌≡◌, ◌⊎◌, ◌++◌, ℕ, List, length, map, Err, Ok};
+ghost use Rattle.std.specs.List.{AllByRecursion, IsDistinct};
+ghost use Rattle.std.specs.Str.{IsUtf8, bytes_eq};
 ghost use Rattle.scope_model.specs.Scope.{ScopeFault, all_names, around, scoped_module, texts, with_module};
 ghost use Rattle.scope_model.specs.ScopeFits.{AreNumbered, ItemsFit, known_sorts, sorts};
-ghost use Rattle.scope_model.specs.ItemNames.{AreDifferent, as_written};
+ghost use Rattle.scope_model.specs.ItemNames.{AllNames, IsPartOfWord, as_written, called};
 ghost use Rattle.scope_model.specs.ScopeNames.{Exported, Text};
 ghost use Rattle.scope_model.specs.Scoped.{ScopedModule};
+ghost use Rattle.source_model.specs.Grammar.{Token};
+ghost use Rattle.source_model.specs.Parsing.{Given};
 ghost use Rattle.source_model.specs.Source.{Module};
+ghost use Rattle.source_model.specs.SurfaceText.{Says};
+ghost use Rattle.source_model.specs.SurfaceTokens.{TextToken, lexed};
 
 /// The scope of a module is known, or it has a first fault, never both, and each of them is one.
 pub fn module_is_scoped_or_faulty()
@@ -36,6 +42,15 @@ pub fn scoped_items_follow_known()
 
 /// In a module whose scope is known no two Core items have one name, those that its datatypes generate counted, in its text and as written.
 pub fn item_names_differ()
-    ensures text { (known : List Exported) (m : Module Text) (r : ScopedModule) → scoped_module known m ≡ Ok r → AreDifferent (texts (all_names m.items)) }
-    ensures written { (known : List Exported) (m : Module Text) (r : ScopedModule) → scoped_module known m ≡ Ok r → AreDifferent (texts (all_names r.items)) }
+    ensures text { (known : List Exported) (m : Module Text) (r : ScopedModule) → scoped_module known m ≡ Ok r → IsDistinct bytes_eq (texts (all_names m.items)) }
+    ensures written { (known : List Exported) (m : Module Text) (r : ScopedModule) → scoped_module known m ≡ Ok r → IsDistinct bytes_eq (texts (all_names r.items)) }
+{}
+
+/// The names of a module are parts of words of Core text: the names of a text's tokens are, so those of the module that it says, so those of its Core items,
+/// and so these as written. For names that stand in a table, they are where those of all tokens are.
+pub fn names_are_parts_of_words()
+    ensures text { (text : List ℕ) (ts : List TextToken) (g : Given Text) (m : Module Text) → IsUtf8 text → lexed text ≡ Ok ts → Says g (map (called text) ts) m → AllNames IsPartOfWord m }
+    ensures table { (g : Given ℕ) (ts : List (Token ℕ)) (m : Module ℕ) → AllByRecursion (λ t. IsPartOfWord (g.text t.name)) ts → Says g ts m → AllNames (λ n. IsPartOfWord (g.text n)) m }
+    ensures items { (m : Module Text) → AllNames IsPartOfWord m → AllByRecursion IsPartOfWord (texts (all_names m.items)) }
+    ensures written { (known : List Exported) (m : Module Text) (r : ScopedModule) → AllNames IsPartOfWord m → scoped_module known m ≡ Ok r → AllByRecursion IsPartOfWord (texts (all_names r.items)) }
 {}
