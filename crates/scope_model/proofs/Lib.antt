@@ -5,6 +5,7 @@ pub mod ItemsNamed
 pub mod ScopedItems
 pub mod OneScope
 pub mod DifferentNames
+pub mod Frames
 pub mod SaidNames
 pub mod TokenNames
 pub mod WordNames

@@ -9,13 +9,12 @@ use Rattle.std.proofs.lemmas.Str.{NoCharPasses-byte, encodes-append, encodes-cha
 use Rattle.std.proofs.Math.Seq.{take-append_seam, drop-append_seam}
 use Rattle.unicode_ident.proofs.IdentLemmas.{is_xid_start-ascii, is_xid_continue-ascii}
 use Rattle.cdle_model.specs.CoreTokens.{ends_word}
-use Rattle.source_model.specs.Rows.{same_kind}
 use Rattle.source_model.specs.SurfaceTokens.{TextToken, starts_name, continues_name, longest, lexed, width}
 use Rattle.source_model.specs.TokenParts.{IsName, IsSpelled}
 use Rattle.source_model.specs.declared.token.TokenKind.{TokenKind}
 use Rattle.source_model.specs.declared.token.TokenKind.TheVariants as k
 use Rattle.source_model.proofs.Parts.{Parts, halves, parts}
-use Rattle.scope_model.specs.ItemNames.{IsPartOfWord, called}
+use Rattle.scope_model.specs.ItemNames.{IsPartOfWord, AreCalled, called}
 
 never_true : (b : Bool) → (b ≡ true → ⊥) → b ≡ false
 never_true true f = absurd (f refl)
@@ -78,15 +77,10 @@ spelled_goes_on bytes (inr n) = name_goes_on bytes n.1
 
 -- ---- tokens
 
-name_kind : (j : TokenKind) → same_kind k.Name j ≡ true → j ≡ k.Name
-name_kind k.Name e = refl
-name_kind j e = absurd cc
-
-named_part : (b : Bool) (j : TokenKind) (bytes word : List ℕ) → same_kind k.Name j ≡ b → bytes ≡ encode_utf8_all word → all_scalars word ≡ true → IsSpelled j (encode_utf8_all word) → IsPartOfWord (cond b bytes [])
-named_part true j bytes word n e s p =
-    let spelled : IsSpelled k.Name bytes = subst (λ (l : List ℕ). IsSpelled k.Name l) (sym e) (subst (λ (i : TokenKind). IsSpelled i (encode_utf8_all word)) (name_kind j n) p) in
+named_part : (j : TokenKind) (bytes word : List ℕ) → bytes ≡ encode_utf8_all word → all_scalars word ≡ true → IsSpelled j (encode_utf8_all word) → j ≡ k.Name → IsPartOfWord bytes
+named_part j bytes word e s p n =
+    let spelled : IsSpelled k.Name bytes = subst (λ (l : List ℕ). IsSpelled k.Name l) (sym e) (subst (λ (i : TokenKind). IsSpelled i (encode_utf8_all word)) n p) in
     record { utf8 = (word, (s, sym e)); goes_on = spelled_goes_on bytes spelled }
-named_part false j bytes word n e s p = record { utf8 = ([], (refl, refl)); goes_on = refl }
 
 slice_front : (text xs ys : List ℕ) (at to : ℕ) → drop at text ≡ encode_utf8_all (xs ++ ys) → to ≡ at + width xs → (slice_range text at to ≡ encode_utf8_all xs) × (drop to text ≡ encode_utf8_all ys)
 slice_front text xs ys at to e f =
@@ -96,7 +90,7 @@ slice_front text xs ys at to e f =
       ap (λ (n : ℕ). drop n text) f ∙ sym (drop-drop (width xs) at text) ∙ ap (drop (width xs)) here ∙ drop-append_seam (encode_utf8_all xs) (encode_utf8_all ys),
     )
 
-parts_of_words : (text cs : List ℕ) (at : ℕ) (ts : List TextToken) → all_scalars cs ≡ true → drop at text ≡ encode_utf8_all cs → Parts at cs ts → AllByRecursion (λ t. IsPartOfWord t.name) (map (called text) ts)
+parts_of_words : (text cs : List ℕ) (at : ℕ) (ts : List TextToken) → all_scalars cs ≡ true → drop at text ≡ encode_utf8_all cs → Parts at cs ts → AreCalled IsPartOfWord (map (called text) ts)
 parts_of_words text cs at [] s e p = tt
 parts_of_words text cs at (t ∷ ts) s e p =
     let gap : List ℕ = p.0 in
@@ -106,7 +100,7 @@ parts_of_words text cs at (t ∷ ts) s e p =
     let split = halves word rest behind.1 in
     let one = slice_front text gap (word ++ rest) at t.span.from (e ∙ ap encode_utf8_all (sym p.3)) p.5 in
     let two = slice_front text word rest t.span.from t.span.to one.1 p.6 in
-    (named_part (same_kind k.Name t.kind) t.kind (slice_range text t.span.from t.span.to) word refl two.0 split.0 p.8, parts_of_words text rest t.span.to ts split.1 two.1 p.9)
+    (named_part t.kind (slice_range text t.span.from t.span.to) word two.0 split.0 p.8, parts_of_words text rest t.span.to ts split.1 two.1 p.9)
 
-pub token_names : (text : List ℕ) (ts : List TextToken) → IsUtf8 text → lexed text ≡ Ok ts → AllByRecursion (λ t. IsPartOfWord t.name) (map (called text) ts)
+pub token_names : (text : List ℕ) (ts : List TextToken) → IsUtf8 text → lexed text ≡ Ok ts → AreCalled IsPartOfWord (map (called text) ts)
 token_names text ts u e = parts_of_words text (chars text) 0 ts (scalars-chars text u) (sym (encodes-chars text u)) (parts (length (chars text)) (chars text) 0 ts (omega arith) e)

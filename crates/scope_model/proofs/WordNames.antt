@@ -13,7 +13,7 @@ use Rattle.source_model.specs.SurfaceTokens.{TextToken, lexed}
 use Rattle.scope_model.specs.Scoped.{ScopedModule}
 use Rattle.scope_model.specs.ScopeNames.{Text, Exported, Around}
 use Rattle.scope_model.specs.Scope.{constructor_names, item_names, all_names, texts, written, scoped_module, around}
-use Rattle.scope_model.specs.ItemNames.{as_written, IsPartOfWord, called, declared_by, AllDeclared, AllNames}
+use Rattle.scope_model.specs.ItemNames.{as_written, IsPartOfWord, AreCalled, called, declared_by, AllDeclared, AllNames}
 use Rattle.scope_model.proofs.ItemsNamed.{module_named}
 use Rattle.scope_model.proofs.SaidNames.{said_names}
 use Rattle.scope_model.proofs.TokenNames.{token_names}
@@ -79,7 +79,7 @@ written_parts : (a : Around) (xs : List Name) → IsPartOfWord a.name → AllPar
 written_parts a [] n p = tt
 written_parts a (x ∷ xs) n p = (joined a.name (codes "." ++ x.text) n (joined (codes ".") x.text dot p.0), written_parts a xs n p.1)
 
-pub numbered_names : (g : Given ℕ) (ts : List (Token ℕ)) (m : Module ℕ) → AllByRecursion (λ t. IsPartOfWord (g.text t.name)) ts → Says g ts m → AllNames (λ n. IsPartOfWord (g.text n)) m
+pub numbered_names : (g : Given ℕ) (ts : List (Token ℕ)) (m : Module ℕ) → AreCalled (λ n. IsPartOfWord (g.text n)) ts → Says g ts m → AllNames (λ n. IsPartOfWord (g.text n)) m
 numbered_names g ts m c s = said_names (λ n. IsPartOfWord (g.text n)) g ts m c s
 
 pub text_names : (text : List ℕ) (ts : List TextToken) (g : Given Text) (m : Module Text) → IsUtf8 text → lexed text ≡ Ok ts → Says g (map (called text) ts) m → AllNames IsPartOfWord m

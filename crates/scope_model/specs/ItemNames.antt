@@ -1,12 +1,11 @@
 -- The names of a module's items, as Core files have them.
-use Rattle.std.specs.Prelude.{◌≡◌, ℕ, false, cond, map, slice_range, List, [], ◌∷◌}
+use Rattle.std.specs.Prelude.{◌≡◌, ℕ, false, map, slice_range, List, [], ◌∷◌}
 use Rattle.std.specs.List.{AllByRecursion, list_any}
 use Rattle.std.specs.Str.{IsUtf8}
 use Rattle.cdle_model.specs.CoreNames.{Name}
 use Rattle.cdle_model.specs.CoreTokens.{ends_word}
 use Rattle.source_model.specs.Source.{Item, Module, def_item, type_item, data_item}
 use Rattle.source_model.specs.Grammar.{Token}
-use Rattle.source_model.specs.Rows.{same_kind}
 use Rattle.source_model.specs.SurfaceTokens.{TextToken}
 use Rattle.source_model.specs.declared.token.TokenKind.TheVariants as k
 use Rattle.scope_model.specs.ScopeNames.{Text, Around}
@@ -23,9 +22,13 @@ pub record IsPartOfWord (w : Text) : Type 0 where
   pub utf8 : IsUtf8 w
   pub goes_on : list_any ends_word w ≡ false
 
--- a name is called by its bytes; what other tokens are called is read by nothing
+-- a token is called by its bytes
 abbrev pub called : List ℕ → TextToken → Token Text
-called text t = record { kind = t.kind; span = t.span; name = cond (same_kind k.Name t.kind) (slice_range text t.span.from t.span.to) [] }
+called text t = record { kind = t.kind; span = t.span; name = slice_range text t.span.from t.span.to }
+
+-- each token that is a name is called so
+abbrev pub AreCalled : {A : Type 0} → (A → Type 0) → List (Token A) → Type 0
+AreCalled P ts = AllByRecursion (λ t. t.kind ≡ k.Name → P t.name) ts
 
 -- the names that an item writes: its own, and its constructors'
 abbrev pub declared_by : {A : Type 0} → Item A → List A

@@ -4,7 +4,7 @@ ghost use Rattle.std.specs.List.{AllByRecursion, IsDistinct};
 ghost use Rattle.std.specs.Str.{IsUtf8, bytes_eq};
 ghost use Rattle.scope_model.specs.Scope.{ScopeFault, all_names, around, scoped_module, texts, with_module};
 ghost use Rattle.scope_model.specs.ScopeFits.{AreNumbered, ItemsFit, known_sorts, sorts};
-ghost use Rattle.scope_model.specs.ItemNames.{AllNames, IsPartOfWord, as_written, called};
+ghost use Rattle.scope_model.specs.ItemNames.{AllNames, AreCalled, IsPartOfWord, as_written, called};
 ghost use Rattle.scope_model.specs.ScopeNames.{Exported, Text};
 ghost use Rattle.scope_model.specs.Scoped.{ScopedModule};
 ghost use Rattle.source_model.specs.Grammar.{Token};
@@ -46,11 +46,11 @@ pub fn item_names_differ()
     ensures written { (known : List Exported) (m : Module Text) (r : ScopedModule) → scoped_module known m ≡ Ok r → IsDistinct bytes_eq (texts (all_names r.items)) }
 {}
 
-/// The names of a module are parts of words of Core text: the names of a text's tokens are, so those of the module that it says, so those of its Core items,
-/// and so these as written. For names that stand in a table, they are where those of all tokens are.
+/// The names of a module are parts of words of Core text: those of its text's tokens are, and so those of the module that it says, of its Core items, and of
+/// these as written. Where names stand in a table, a module's are where those of its name tokens are.
 pub fn names_are_parts_of_words()
     ensures text { (text : List ℕ) (ts : List TextToken) (g : Given Text) (m : Module Text) → IsUtf8 text → lexed text ≡ Ok ts → Says g (map (called text) ts) m → AllNames IsPartOfWord m }
-    ensures table { (g : Given ℕ) (ts : List (Token ℕ)) (m : Module ℕ) → AllByRecursion (λ t. IsPartOfWord (g.text t.name)) ts → Says g ts m → AllNames (λ n. IsPartOfWord (g.text n)) m }
+    ensures table { (g : Given ℕ) (ts : List (Token ℕ)) (m : Module ℕ) → AreCalled (λ n. IsPartOfWord (g.text n)) ts → Says g ts m → AllNames (λ n. IsPartOfWord (g.text n)) m }
     ensures items { (m : Module Text) → AllNames IsPartOfWord m → AllByRecursion IsPartOfWord (texts (all_names m.items)) }
     ensures written { (known : List Exported) (m : Module Text) (r : ScopedModule) → AllNames IsPartOfWord m → scoped_module known m ≡ Ok r → AllByRecursion IsPartOfWord (texts (all_names r.items)) }
 {}
