@@ -9,7 +9,7 @@ use Rattle.source_model.specs.Rows.{Row, row, leaving, Leaving, MustStand, LeftO
 use Rattle.source_model.specs.Made.{made, left_out}
 use Rattle.source_model.specs.Parsing.{Given}
 use Rattle.source_model.specs.SurfaceText.{Reads, begins, left, makes, tests, ReadsAll, end, more}
-use Rattle.source_model.proofs.Shapes.{Shape, a_token, a_part, an_owner, some_parameters, is_token, is_part, is_enclosed, no_option, is_owner, no_owner, is_patterns, is_branches, is_parameters, is_constructors, is_module, Stand, bottom, on, taken, given, made_stand}
+use Rattle.source_model.proofs.Shapes.{Shape, a_token, a_part, an_owner, some_parameters, is_token, is_part, no_option, is_owner, no_owner, is_patterns, is_branches, is_parameters, is_constructors, is_module, Stand, bottom, on, taken, given, made_stand}
 use Rattle.source_model.proofs.RowShapes.{grown, left_by, left_by_row, Shapes, without, without_is, with_one, with_one_is, given_from, behind_making, behind_want, behind_all, and_then, Leads, row_leads}
 
 and_then_is : (r : Shapes) (f : List Shape → Shapes) (xs : List Shape) → and_then r f ≡ Some xs → (us : List Shape) × (r ≡ Some us) × (f us ≡ Some xs)

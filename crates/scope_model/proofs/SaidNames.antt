@@ -4,7 +4,7 @@ use Rattle.std.specs.List.{AllByRecursion}
 use Rattle.source_model.specs.Source.{Tree, Item, Module, Parameter, Constructor, NameUse, def_item, type_item, data_item}
 use Rattle.source_model.specs.Heights.{is_kind}
 use Rattle.source_model.specs.Grammar.{Token, Value, token, part, parameters, constructors, module_so_far, Symbol, The, Class, Body, Imports, Items, Parameters, Constructors, Want, Test_, Make, Read}
-use Rattle.source_model.specs.Rows.{only, same_kind, row, item_row, leaving, MustStand, a_module}
+use Rattle.source_model.specs.Rows.{only, same_kind, row, item_row}
 use Rattle.source_model.specs.Made.{made, defined, with_import}
 use Rattle.source_model.specs.Parsing.{Given}
 use Rattle.source_model.specs.SurfaceText.{Reads, begins, left, makes, tests, ReadsAll, end, more, Says}
@@ -164,6 +164,7 @@ mutual
 
 mutual
   unfolding row
+
   want_named : {A : Type 0} (P : A → Type 0) {g : Given A} {w : Want} {at to : ℕ} {ts rest : List (Token A)} {vs us : List (Value A)}
       → Reads g w at ts vs to rest us → AreCalled P ts → (Q : List (Value A) → Type 0) → OnWant P g.text w vs Q → Q us
   want_named P makes c Q h = h

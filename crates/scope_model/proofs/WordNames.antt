@@ -1,5 +1,5 @@
 -- The names of a module's Core items are parts of words of Core text, also as written.
-use Rattle.std.proofs.Common.{◌≡◌, ℕ, zero, suc, ◌<◌, Bool, true, false, ◌||◌, List, [], ◌∷◌, ◌++◌, codes, map, refl, sym, subst, ◌∙◌, Option, Ok, arith}
+use Rattle.std.proofs.Common.{◌≡◌, ℕ, zero, suc, ◌<◌, Bool, true, false, ◌||◌, List, [], ◌∷◌, ◌++◌, codes, map, refl, sym, subst, Option, Ok, arith}
 use Rattle.std.specs.List.{AllByRecursion, list_any}
 use Rattle.std.specs.Str.{IsUtf8, IsAscii}
 use Rattle.std.proofs.lemmas.Str.{IsUtf8-append, IsUtf8-from_ascii}
@@ -12,7 +12,7 @@ use Rattle.source_model.specs.SurfaceText.{Says}
 use Rattle.source_model.specs.SurfaceTokens.{TextToken, lexed}
 use Rattle.scope_model.specs.Scoped.{ScopedModule}
 use Rattle.scope_model.specs.ScopeNames.{Text, Exported, Around}
-use Rattle.scope_model.specs.Scope.{constructor_names, item_names, all_names, texts, written, scoped_module, around}
+use Rattle.scope_model.specs.Scope.{constructor_names, item_names, all_names, texts, scoped_module, around}
 use Rattle.scope_model.specs.ItemNames.{as_written, IsPartOfWord, AreCalled, called, declared_by, AllDeclared, AllNames}
 use Rattle.scope_model.proofs.ItemsNamed.{module_named}
 use Rattle.scope_model.proofs.SaidNames.{said_names}
