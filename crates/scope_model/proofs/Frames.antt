@@ -141,8 +141,8 @@ module _ {A : Type 0} where
 abbrev Leaves : {A : Type 0} → List Shape → List (Value A) → List (Value A) → Type 0
 Leaves {A} xs below ys = (zs : List (Value A)) × (ys ≡ zs ++ below) × Stand xs zs
 
-row_frame : {A : Type 0} (s : Symbol) (ss xs : List Shape) (front mid below ws ys : List (Value A)) → xs ≡ left_by s ∷ ss → Stand ss mid → Leaves (left_by_row s ∷ []) (mid ++ below) ys → Leaves xs below ys
-row_frame {A} s ss xs front mid below ws ys e h l = (l.0 ++ mid, l.1 ∙ sym (append_assoc l.0 mid below), subst (λ (zs : List Shape). Stand zs (l.0 ++ mid)) (sym e) (row_stands s ss (l.0 ++ mid) (join (left_by_row s ∷ []) ss l.2 h)))
+row_frame : {A : Type 0} (s : Symbol) (ss xs : List Shape) (mid below ys : List (Value A)) → xs ≡ left_by s ∷ ss → Stand ss mid → Leaves (left_by_row s ∷ []) (mid ++ below) ys → Leaves xs below ys
+row_frame {A} s ss xs mid below ys e h l = (l.0 ++ mid, l.1 ∙ sym (append_assoc l.0 mid below), subst (λ (zs : List Shape). Stand zs (l.0 ++ mid)) (sym e) (row_stands s ss (l.0 ++ mid) (join (left_by_row s ∷ []) ss l.2 h)))
 
 mutual
   want_frame : {A : Type 0} {g : Given A} {w : Want} {at to : ℕ} {ts rest : List (Token A)} {ws ys : List (Value A)}
@@ -153,7 +153,7 @@ mutual
       let whole : ws ≡ b.0 ++ (b.1 ++ below) = q ∙ ap (λ (l : List (Value A)). l ++ below) b.2 ∙ append_assoc b.0 b.1 below in
       let first : Stand (grown s ++ []) b.0 = subst (λ (ss : List Shape). Stand ss b.0) (sym (append-nil (grown s))) b.3 in
       let k = all_frame d (a_token ∷ grown s ++ []) (left_by_row s ∷ []) (token t ∷ b.0) (b.1 ++ below) (ap (λ (l : List (Value A)). token t ∷ l) whole) (row_is s ws t [] front r) (on is_token first) in
-      row_frame s o.0 xs b.0 b.1 below ws ys o.2 b.4 k
+      row_frame s o.0 xs b.1 below ys o.2 b.4 k
   want_frame (left {s = s} {vs = ws} n b) us xs vs below q e h =
       let o = with_one_is (left_by s) (without (grown s) us) xs e in
       (left_out (leaving s) vs, ap (left_out (leaving s)) q ∙ left_below (leaving s) vs below, subst (λ (ss : List Shape). Stand ss (left_out (leaving s) vs)) (sym o.2) (left_stands s o.0 n (stand_without (grown s) us o.0 vs o.1 h)))

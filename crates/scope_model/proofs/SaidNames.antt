@@ -13,7 +13,7 @@ use Rattle.source_model.specs.declared.token.TokenKind.TheVariants as k
 use Rattle.scope_model.specs.ItemNames.{AreCalled, declared_by, AllDeclared, AllNames}
 use Rattle.scope_model.proofs.Frames.{class_read, body_read, parameters_read}
 
-pub name_kind : (j : TokenKind) → same_kind k.Name j ≡ true → j ≡ k.Name
+name_kind : (j : TokenKind) → same_kind k.Name j ≡ true → j ≡ k.Name
 name_kind k.Name e = refl
 name_kind j e = absurd cc
 

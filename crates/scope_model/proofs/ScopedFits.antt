@@ -1,5 +1,5 @@
 -- A tree whose scope is known fits it.
-use Rattle.std.proofs.Common.{◌≡◌, Bool, true, false, if◌then◌else◌, List, [], ◌∷◌, ◌++◌, Option, Some, None, Ok, Err, ◌⊎◌, inl, inr, refl, sym, ap, subst}
+use Rattle.std.proofs.Common.{◌≡◌, Bool, true, false, if◌then◌else◌, List, [], ◌∷◌, ◌++◌, Option, Some, None, Ok, Err, ◌⊎◌, inl, inr, refl, sym, subst}
 use Rattle.std.proofs.lemmas.Slice.Eq.{bytes_eq-Decides}
 use Rattle.cdle_model.specs.declared.grammar.Sort.{Sort}
 use Rattle.cdle_model.specs.declared.grammar.Sort.TheVariants.{OfTerm, OfType}
@@ -33,10 +33,6 @@ Unused ob s t x = first_use x ob s t ≡ None
 name_fits : (a : Around) (xs : List Sort) (bs : List Bound) (vs : Binders) (p : Span) (s : Sort) (u : NameUse Text) (r : Reference) (Q : Text → Type 0) → IsAround a xs → AreSeen Q bs vs
     → (is_use u.name u ≡ true → Q u.name → ⊥) → wanted_as p s (stands a bs u) ≡ Ok r → IsOfSort vs xs s r
 name_fits a xs bs vs p s u r Q h seen kept e = stands_fits a xs bs vs u (s, r) Q h seen kept (wanted_is p s (stands a bs u) r e)
-
-binders-append : (bs cs : List Bound) → binders (bs ++ cs) ≡ binders bs ++ binders cs
-binders-append [] cs = refl
-binders-append (b ∷ bs) cs = ap (λ (l : Binders). Some b.binding ∷ l) (binders-append bs cs)
 
 binders-case : (f : CaseForm) (r : Option Text) → binders (of_case f r) ≡ case_bindings f
 binders-case mu_of r = refl
@@ -162,7 +158,7 @@ behind_branch : (ob bs : List Bound) (vs : Binders) (c : NameUse Text) (ps : Lis
 behind_branch ob bs vs c ps t us s = still_seen _ (Unused ob OfTerm us) bs vs
     (λ y e. second_none (unless_hidden (hides y (with_patterns ps ob)) (first_use y [] OfTerm t)) _ (second_none (if is_use y c then Some OfTerm else None) _ e)) s
 
-pub scoped_fits : (a : Around) (xs : List Sort) → IsAround a xs → (ob bs : List Bound) (vs : Binders) (s : Sort) (t : Tree Text) (v : Scoped) → AreSeen (Unused ob s t) bs vs → scoped a ob bs s t ≡ Ok v → FitsScope (binders ob) vs xs s v
+scoped_fits : (a : Around) (xs : List Sort) → IsAround a xs → (ob bs : List Bound) (vs : Binders) (s : Sort) (t : Tree Text) (v : Scoped) → AreSeen (Unused ob s t) bs vs → scoped a ob bs s t ≡ Ok v → FitsScope (binders ob) vs xs s v
 unfolding scoped first_use
 scoped_fits a xs h ob bs vs s (use_of p u) v seen e =
     let r = and_then (wanted_as p s (stands a bs u)) (λ r. Ok (use_of p r)) v e in
@@ -202,7 +198,7 @@ scoped_fits a xs h ob bs vs s (cases p f x t m us) v seen e =
     let motive = still_seen _ (Unused [] OfType m) bs vs (λ y z. first_none (first_use y [] OfType m) (first_use y (of_case f x) OfTerm us) z) rest in
     let branches = still_seen _ (Unused (of_case f x) OfTerm us) bs vs (λ y z. second_none (first_use y [] OfType m) (first_use y (of_case f x) OfTerm us) z) rest in
     let three = scoped_fits a xs h (of_case f x) bs vs OfTerm us k.0 branches k.1 in
-    subst (FitsScope (binders ob) vs xs s) same
+    subst (FitsScope (binders ob) vs xs s) {x = cases p f tt r.0 q.0 k.0} same
     (scoped_fits a xs h [] bs vs OfTerm t r.0 taken r.1, scoped_fits a xs h [] bs vs OfType m q.0 motive q.1, subst (λ (l : Binders). FitsScope l vs xs OfTerm k.0) (binders-case f x) three)
 scoped_fits a xs h ob bs vs s (branch p c ps t us) v seen e =
     let n = and_then (wanted_as p OfTerm (stands a bs c)) (λ r. scoped a [] (with_patterns ps (ob ++ bs)) OfTerm t >>= λ w. scoped a ob bs OfTerm us >>= λ ws. Ok (branch p r (bare ps) w ws)) v e in
@@ -210,7 +206,7 @@ scoped_fits a xs h ob bs vs s (branch p c ps t us) v seen e =
     let k = and_then (scoped a ob bs OfTerm us) (λ ws. Ok (branch p n.0 (bare ps) r.0 ws)) v r.2 in
     let same : branch p n.0 (bare ps) r.0 k.0 ≡ v = cc in
     let one = scoped_fits a xs h [] (with_patterns ps (ob ++ bs)) (under_patterns (bare ps) (binders ob ++ vs)) OfTerm t r.0 (under_pattern ob bs vs c ps t us seen) r.1 in
-    subst (FitsScope (binders ob) vs xs s) same (
+    subst (FitsScope (binders ob) vs xs s) {x = branch p n.0 (bare ps) r.0 k.0} same (
       name_fits a xs bs vs p OfTerm c n.0 (λ y. branch_use ob c ps t us y ≡ None) h seen (λ b z. not_used (is_use c.name c) OfTerm b (first_none (if is_use c.name c then Some OfTerm else None) _ z)) n.1,
       one,
       scoped_fits a xs h ob bs vs OfTerm us k.0 (behind_branch ob bs vs c ps t us seen) k.1,

@@ -106,9 +106,6 @@ bound_fits w bs vs xs x Q s kept e =
 
 -- ---- items
 
-abbrev IsItem : List Sort → Standing → Type 0
-IsItem xs x = (n : ℕ) × (slice_get xs n ≡ Some x.0) × (x.1 ≡ item n)
-
 -- among the items that begin with the number
 abbrev IsFrom : ℕ → List Sort → Standing → Type 0
 IsFrom n xs x = (k : ℕ) × (slice_get xs k ≡ Some x.0) × (x.1 ≡ item (n + k))
