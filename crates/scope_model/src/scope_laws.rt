@@ -49,6 +49,7 @@ pub fn item_names_differ()
 /// The names of a module are parts of words of Core text: those of its text's tokens are, and so those of the module that it says, of its Core items, and of
 /// these as written. Where names stand in a table, a module's are where those of its name tokens are.
 pub fn names_are_parts_of_words()
+    ensures tokens { (text : List ℕ) (ts : List TextToken) → IsUtf8 text → lexed text ≡ Ok ts → AreCalled IsPartOfWord (map (called text) ts) }
     ensures text { (text : List ℕ) (ts : List TextToken) (g : Given Text) (m : Module Text) → IsUtf8 text → lexed text ≡ Ok ts → Says g (map (called text) ts) m → AllNames IsPartOfWord m }
     ensures table { (g : Given ℕ) (ts : List (Token ℕ)) (m : Module ℕ) → AreCalled (λ n. IsPartOfWord (g.text n)) ts → Says g ts m → AllNames (λ n. IsPartOfWord (g.text n)) m }
     ensures items { (m : Module Text) → AllNames IsPartOfWord m → AllByRecursion IsPartOfWord (texts (all_names m.items)) }
