@@ -5,7 +5,6 @@ use Rattle.source_model.specs.Grammar.{Token}
 use Rattle.source_model.specs.Rows.{same_kind}
 use Rattle.source_model.specs.Parsing.{Given, Unexpected, TooDeep, TooMany, IsFirstFault}
 use Rattle.source_model.specs.SurfaceText.{Says}
-use Rattle.source_model.specs.SurfaceTokens.{TextToken}
 use Rattle.source_model.specs.declared.token.TokenKind.TheVariants as k
 use Rattle.surf_lex.specs.declared.tokens.Token as lexer
 use Rattle.surf_tree.specs.Forms.{place}

@@ -10,10 +10,10 @@ ghost use Rattle.surf_tree.specs.Items.{parameter_of};
 ghost use Rattle.surf_reader.specs.View.{Goes, Tested, Told, given_of, here, token_of};
 ghost use Rattle.surf_parse.specs.Outer.{ConstructorTree, ParameterTree, Repeats, row_of_constructor, constructor_on, constructors_of, row_of_parameter, parameter_on, parameters_of};
 
-use surf_reader::{Named, ParseFault, Reader};
 use crate::item::OUTERMOST;
 use cdle_model::Count;
 use source_model::{TokenKind, Wanted};
+use surf_reader::{Named, ParseFault, Reader};
 use surf_tree::{SrcClass, SrcCtor, SrcParam, SrcType, SrcTypeForm};
 
 /// The most parameters of a datatype.
@@ -87,7 +87,11 @@ fn parameter_behind(reader: &Reader<'_>, at: usize) -> Result<(SrcParam, usize),
 }
 
 /// The parameter that is next, if one is, where so many may still come.
-fn parameter(reader: &Reader<'_>, room: u32, at: usize) -> Result<Option<(SrcParam, usize)>, ParseFault>
+fn parameter(
+    reader: &Reader<'_>,
+    room: u32,
+    at: usize,
+) -> Result<Option<(SrcParam, usize)>, ParseFault>
     ensures repeats { (ps : List ParameterTree) (vs : List (Value ℕ)) → Repeats reader.now (Parameters room) (Parameters (pred room)) (m.parameters ps ∷ vs) (parameter_on ps vs) at result }
     ensures within { (x : _) → result ≡ Ok (Some x) → 0 < room }
 {
@@ -106,7 +110,10 @@ fn parameter(reader: &Reader<'_>, room: u32, at: usize) -> Result<Option<(SrcPar
 }
 
 /// All the parameters of a datatype.
-pub(crate) fn parameters(reader: &Reader<'_>, at: usize) -> Result<(Vec<SrcParam>, usize), ParseFault>
+pub(crate) fn parameters(
+    reader: &Reader<'_>,
+    at: usize,
+) -> Result<(Vec<SrcParam>, usize), ParseFault>
     ensures { Told reader.now parameters_of result (λ vs. one (given_of reader.now) (Read (Parameters 16)) (here reader.now at (m.parameters [] ∷ vs))) }
 {
     let mut list = Vec::new(reader.alloc);
@@ -138,7 +145,11 @@ fn constructor_behind(reader: &Reader<'_>, at: usize) -> Result<(SrcCtor, usize)
 }
 
 /// The constructor that is next, if one is, where so many may still come.
-fn constructor(reader: &Reader<'_>, room: u32, at: usize) -> Result<Option<(SrcCtor, usize)>, ParseFault>
+fn constructor(
+    reader: &Reader<'_>,
+    room: u32,
+    at: usize,
+) -> Result<Option<(SrcCtor, usize)>, ParseFault>
     ensures repeats { (cs : List ConstructorTree) (vs : List (Value ℕ)) → Repeats reader.now (Constructors room) (Constructors (pred room)) (m.constructors cs ∷ vs) (constructor_on cs vs) at result }
     ensures within { (x : _) → result ≡ Ok (Some x) → 0 < room }
 {
@@ -157,7 +168,10 @@ fn constructor(reader: &Reader<'_>, room: u32, at: usize) -> Result<Option<(SrcC
 }
 
 /// All the constructors of a datatype.
-pub(crate) fn constructors(reader: &Reader<'_>, at: usize) -> Result<(Vec<SrcCtor>, usize), ParseFault>
+pub(crate) fn constructors(
+    reader: &Reader<'_>,
+    at: usize,
+) -> Result<(Vec<SrcCtor>, usize), ParseFault>
     ensures { Told reader.now constructors_of result (λ vs. one (given_of reader.now) (Read (Constructors 64)) (here reader.now at (m.constructors [] ∷ vs))) }
 {
     let mut list = Vec::new(reader.alloc);

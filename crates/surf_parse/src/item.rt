@@ -10,8 +10,8 @@ ghost use Rattle.surf_reader.specs.View.{Goes, on_token, token_of};
 ghost use Rattle.surf_parse.specs.Outer.{Advances, Repeats, constructors_row, datatype_row, definition_row, item_on, term_rows, type_rows};
 
 use crate::data::{constructors, parameters};
-use surf_reader::{Named, ParseFault, Reader};
 use source_model::{TokenKind, Wanted};
+use surf_reader::{Named, ParseFault, Reader};
 use surf_tree::{Src, SrcClass, SrcItem, SrcKind, SrcParam, SrcType};
 
 /// With the outermost term or class itself, which nests nothing, this is one more than nesting may rise.

@@ -14,9 +14,9 @@ ghost use Rattle.surf_parse.specs.Answers.{IsParsed};
 ghost use Rattle.surf_parse.specs.Outer.{Advances, IsEnd, Repeats, row_of_import, import_on, imported, imports_of, items_of, module_value};
 
 use crate::item::item;
-use surf_reader::{Named, ParseFault, Reader};
 use cdle_names::{NameId, NoMemory, Span};
 use source_model::{TokenKind, Wanted};
+use surf_reader::{Named, ParseFault, Reader};
 use surf_tree::{SrcItem, SrcModule};
 
 /// Whether a slash stands in a text.
@@ -122,7 +122,11 @@ fn is_imported(reader: &Reader<'_>, list: &Vec<(NameId, Span)>, text: &str) -> b
 }
 
 /// One more import, where none has its text.
-fn add_import(reader: &Reader<'_>, list: &mut Vec<(NameId, Span)>, name: Named) -> Result<(), NoMemory>
+fn add_import(
+    reader: &Reader<'_>,
+    list: &mut Vec<(NameId, Span)>,
+    name: Named,
+) -> Result<(), NoMemory>
     ensures { OnOk result (map import_of list.new.items ≡ imported (given_of reader.now).text name (map import_of list.old.items)) }
 {
     if is_imported(reader, list, text(reader, name.name)) {

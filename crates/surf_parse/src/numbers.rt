@@ -6,11 +6,11 @@ ghost use Rattle.surf_lex.specs.Fronts.{token_of as text_token};
 ghost use Rattle.surf_parse.specs.Answers.{AreNumbered, Grows, numbered};
 ghost use Rattle.surf_parse.specs.Numbers.{IsNumber, IsPlaced};
 
-use surf_reader::{Named, is_same};
 use cdle_names::{NameId, NameTable, NoMemory};
 use source_model::TokenKind;
 use std::alloc::Global;
 use surf_lex::Token;
+use surf_reader::{Named, is_same};
 
 /// The number of a token's text where it is a name.
 fn number_of(

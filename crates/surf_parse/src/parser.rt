@@ -5,11 +5,11 @@ ghost use Rattle.surf_lex.specs.Fronts.{token_of as text_token};
 ghost use Rattle.surf_parse.specs.Answers.{AreNumbered, Grows, IsParsed, given_by, numbered};
 ghost use Rattle.surf_reader.specs.declared.error.ParseFault.TheVariants as faults;
 
-use surf_reader::{ParseFault, Reader};
 use crate::numbers::number;
 use cdle_names::NameTable;
 use std::alloc::Global;
 use surf_lex::Token;
+use surf_reader::{ParseFault, Reader};
 use surf_tree::SrcModule;
 
 /// The module that the tokens of a text are, or their first fault. Its name is to be `module`.

@@ -10,7 +10,7 @@ ghost use Rattle.source_model.specs.declared.wanted.Wanted.TheVariants as wanted
 ghost use Rattle.surf_tree.specs.Forms.{given};
 ghost use Rattle.surf_reader.specs.View.{Branched, Goes, Told, branch_of, branch_row_behind, branches_of, case_making, case_under, given_of, here, name_tree, on_token, term_part};
 
-use crate::term::{motive, spine, term};
+use crate::terms::{motive, spine, term};
 use source_model::{TokenKind, Wanted};
 use surf_reader::{Named, ParseFault, Reader, between, to_term, used};
 use surf_tree::{Src, SrcBranch, SrcClass, SrcPattern, SrcType};

@@ -5,10 +5,10 @@
 //! is also what the recursion goes by.
 #![tactic(auto)]
 
-mod atom;
+mod atoms;
 mod cases;
-mod class;
-mod term;
+mod classes;
+mod terms;
 
-pub use class::class;
-pub use term::term;
+pub use classes::class;
+pub use terms::term;

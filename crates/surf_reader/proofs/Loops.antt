@@ -1,7 +1,7 @@
 -- What repeats: each part that is read takes tokens, and reading goes on behind it.
 use Rattle.std.proofs.Common.{◌≡◌, ℕ, zero, suc, ◌-◌, ◌+◌, ◌≤◌, List, [], ◌∷◌, ◌++◌, length, map, Option, Some, None, Result, Ok, Err, refl, sym, ap, ◌∙◌, arith}
 use Rattle.source_model.specs.Source.{Tree, use_of}
-use Rattle.source_model.specs.Grammar.{Token, Value, token, part, branches, patterns, Symbol, Want, Read, Make, Branch, Patterns}
+use Rattle.source_model.specs.Grammar.{Token, Value, token, part, branches, patterns, Symbol, Want, Read, Make, Branch}
 use Rattle.source_model.specs.Grammar as m
 use Rattle.source_model.specs.Rows.{row}
 use Rattle.source_model.specs.Made.{made, chained}

@@ -6,7 +6,7 @@ use Rattle.source_model.specs.declared.token.TokenKind.TheVariants as k
 use Rattle.source_model.specs.declared.wanted.Wanted.{Wanted}
 use Rattle.source_model.specs.declared.wanted.Wanted.TheVariants as wanted
 use Rattle.source_model.specs.Source.{Tree}
-use Rattle.source_model.specs.Grammar.{Token, Value, token, part, Symbol, Want, Making, Read, Make, Test_, Fits, IsShallow, HeadIsType, HasRoom, IsType, TypeGiven, Need, any, of_type, as_domain, Atom, Spine, Term, ClassAtom, Class, Arguments, TypeArguments, MaybeArrow, Projections}
+use Rattle.source_model.specs.Grammar.{Token, Value, token, part, Want, Making, Read, Make, Test_, Fits, IsShallow, HeadIsType, HasRoom, IsType, TypeGiven, Need, any, of_type, as_domain, Atom, Spine, Term, ClassAtom, Class, Arguments, TypeArguments, MaybeArrow, Projections}
 use Rattle.source_model.specs.Grammar as m
 use Rattle.source_model.specs.Rows.{row, Row, ◌▸◌, raised, behind_type, atom_row, whole_atom_row, spine_row, term_row, argument_row, class_atom_row, class_row, type_argument_row, arrow_row, pattern_row, projection_row}
 use Rattle.source_model.specs.Made.{made}

@@ -1,4 +1,4 @@
-use Rattle.std.proofs.Common.{◌∙◌, ◌∷◌, map, refl}
+use Rattle.std.proofs.Common.{◌∙◌, map, refl}
 use Rattle.std.proofs.lemmas.List.{map_push}
 use Rattle.surf_tree.specs.Items.{parameter_of}
 use Rattle.surf_parse.proofs.Ahead.{pred_is}

@@ -1,4 +1,4 @@
-use Rattle.std.proofs.Common.{◌∙◌, [], ◌∷◌, Ok, ap, map, refl}
+use Rattle.std.proofs.Common.{◌∙◌, [], Ok, ap, map, refl}
 use Rattle.surf_tree.specs.Items.{import_of}
 use Rattle.surf_parse.proofs.module.imports.Goals as goal
 

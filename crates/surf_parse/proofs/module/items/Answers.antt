@@ -1,4 +1,4 @@
-use Rattle.std.proofs.Common.{◌∙◌, [], ◌∷◌, Ok, ap, map, refl}
+use Rattle.std.proofs.Common.{◌∙◌, Ok, ap, map, refl}
 use Rattle.std.proofs.lemmas.List.{map_push}
 use Rattle.surf_tree.specs.Items.{item_of}
 use Rattle.surf_parse.proofs.module.items.Goals as goal

@@ -1,4 +1,4 @@
-use Rattle.std.proofs.Common.{◌≡◌, ◌∷◌, [], Ok, Err, refl, sym, ap, ◌∙◌, rules}
+use Rattle.std.proofs.Common.{◌≡◌, ◌∷◌, Ok, Err, refl, sym, ap, ◌∙◌, rules}
 use Rattle.source_model.specs.Source.{Span, two, app_of}
 use Rattle.source_model.specs.Grammar.{Test_, IsShallow, part}
 use Rattle.source_model.specs.Grammar as m

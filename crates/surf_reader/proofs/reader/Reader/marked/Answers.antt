@@ -1,5 +1,4 @@
 use Rattle.std.proofs.Common.{refl}
-use Rattle.source_model.specs.Grammar.{Token, Value, token, part, nothing, enclosed, patterns, branches, parameters, constructors, module_so_far, Branch, Symbol, Want, Test_, Make, Read, Need, any, of_type, as_domain, IsType, Fits, IsShallow, HasFewArguments, HeadIsType, IsModule, IsImportable, HasRoom, HasRoomFor, The, Term, Spine, Atom, ClassAtom, Class, Body, Owner, Annotation, Side, KeptTerm, TypeGiven, Motive, MaybeArrow, Projections, Patterns, Arguments, TypeArguments, Branches, Imports, Items, Parameters, Constructors}
 use Rattle.source_model.specs.Grammar as m
 use Rattle.source_model.specs.Made.{made}
 use Rattle.source_model.proofs.Turns.{one_make}

@@ -1,5 +1,5 @@
 use Rattle.std.proofs.Common.{◌≡◌, ◌∙◌, ◌-◌, ◌+◌, ◌≤◌, [], ◌∷◌, ◌++◌, length, Err, refl, sym, ap, rules, arith}
-use Rattle.source_model.specs.Grammar.{Token, Value, token, part, nothing, enclosed, patterns, branches, parameters, constructors, module_so_far, Branch, Symbol, Want, Test_, Make, Read, Need, any, of_type, as_domain, IsType, Fits, IsShallow, HasFewArguments, HeadIsType, IsModule, IsImportable, HasRoom, HasRoomFor, The, Term, Spine, Atom, ClassAtom, Class, Body, Owner, Annotation, Side, KeptTerm, TypeGiven, Motive, MaybeArrow, Projections, Patterns, Arguments, TypeArguments, Branches, Imports, Items, Parameters, Constructors}
+use Rattle.source_model.specs.Grammar.{token, patterns, Make, Patterns}
 use Rattle.source_model.specs.Grammar as m
 use Rattle.source_model.specs.Rows.{row, binding, pattern_row}
 use Rattle.source_model.specs.Made.{made}

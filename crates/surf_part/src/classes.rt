@@ -9,8 +9,8 @@ ghost use Rattle.source_model.specs.declared.wanted.Wanted.TheVariants as wanted
 ghost use Rattle.surf_tree.specs.Forms.{class_tree};
 ghost use Rattle.surf_reader.specs.View.{ClassArgued, ClassGives, Gives, Goes, Reads, Told, arrow_tail, binder_row, by, ends_of, need_of, class_part, given_of, here, on_token, type_part};
 
-use crate::atom::atom;
-use crate::term::term;
+use crate::atoms::atom;
+use crate::terms::term;
 use source_model::{TokenKind, Wanted};
 use surf_reader::{
     Binder, Named, ParseFault, Reader, begins_type_argument, between, one_less, word_behind_arrow,

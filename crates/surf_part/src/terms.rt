@@ -8,9 +8,9 @@ ghost use Rattle.source_model.specs.declared.token.TokenKind.TheVariants as kind
 ghost use Rattle.source_model.specs.declared.wanted.Wanted.TheVariants as wanteds;
 ghost use Rattle.surf_reader.specs.View.{Argued, Gives, Goes, Reads, Told, by, class_given_part, given_of, here, on_token, term_on, term_part, type_given};
 
-use crate::atom::atom;
+use crate::atoms::atom;
 use crate::cases::{cases, mu};
-use crate::class::{class, class_atom};
+use crate::classes::{class, class_atom};
 use source_model::{TokenKind, Wanted};
 use surf_reader::{
     Named, ParseFault, Reader, begins_argument, begins_class_atom, between, to_term,

@@ -9,7 +9,7 @@ ghost use Rattle.source_model.specs.declared.token.TokenKind.TheVariants as kind
 ghost use Rattle.source_model.specs.declared.wanted.Wanted.TheVariants as wanteds;
 ghost use Rattle.surf_reader.specs.View.{Gives, Goes, Reads, enclosed_value, on_token, term_part};
 
-use crate::term::term;
+use crate::terms::term;
 use source_model::{TokenKind, Wanted};
 use surf_reader::{Named, ParseFault, Reader, between};
 use surf_tree::Src;
