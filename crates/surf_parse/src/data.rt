@@ -13,6 +13,7 @@ ghost use Rattle.surf_parse.specs.Outer.{ConstructorTree, ParameterTree, Repeats
 use crate::item::OUTERMOST;
 use cdle_model::Count;
 use source_model::{TokenKind, Wanted};
+use surf_part::class;
 use surf_reader::{Named, ParseFault, Reader};
 use surf_tree::{SrcClass, SrcCtor, SrcParam, SrcType, SrcTypeForm};
 

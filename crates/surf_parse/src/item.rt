@@ -11,6 +11,7 @@ ghost use Rattle.surf_parse.specs.Outer.{Advances, Repeats, constructors_row, da
 
 use crate::data::{constructors, parameters};
 use source_model::{TokenKind, Wanted};
+use surf_part::{class, term};
 use surf_reader::{Named, ParseFault, Reader};
 use surf_tree::{Src, SrcClass, SrcItem, SrcKind, SrcParam, SrcType};
 

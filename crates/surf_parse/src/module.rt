@@ -27,7 +27,7 @@ fn has_slash(text: &str) -> bool
 }
 
 /// The text of a name. (Where the table has no such number there is none.)
-fn text<'a>(reader: &Reader<'a>, name: NameId) -> &'a str
+fn text_of<'a>(reader: &Reader<'a>, name: NameId) -> &'a str
     ensures { result.now ≡ get_or reader.now.names.now name.0 [] }
 {
     if name.0 < reader.names.len() {
@@ -41,7 +41,7 @@ fn text<'a>(reader: &Reader<'a>, name: NameId) -> &'a str
 fn names_module(reader: &Reader<'_>, name: Named) -> bool
     ensures { result ≡ cond (has_slash ((given_of reader.now).text name.name.0)) false (bytes_eq ((given_of reader.now).text name.name.0) reader.now.«module».now) }
 {
-    let text = text(reader, name.name);
+    let text = text_of(reader, name.name);
     !has_slash(text) && text.as_bytes() == reader.module
 }
 
@@ -49,7 +49,7 @@ fn names_module(reader: &Reader<'_>, name: Named) -> bool
 fn is_reserved(reader: &Reader<'_>, name: Named) -> bool
     ensures { result ≡ (has_slash ((given_of reader.now).text name.name.0) || bytes_eq ((given_of reader.now).text name.name.0) (codes "prelude")) }
 {
-    let text = text(reader, name.name);
+    let text = text_of(reader, name.name);
     has_slash(text) || text == "prelude"
 }
 
@@ -104,7 +104,7 @@ fn import(reader: &Reader<'_>, at: usize) -> Result<Option<(Named, usize)>, Pars
 fn has_text(reader: &Reader<'_>, name: NameId, text: &str) -> bool
     ensures { result ≡ bytes_eq text.now ((given_of reader.now).text name.0) }
 {
-    text == text(reader, name)
+    text == text_of(reader, name)
 }
 
 /// Whether an import has that text.
@@ -129,7 +129,7 @@ fn add_import(
 ) -> Result<(), NoMemory>
     ensures { OnOk result (map import_of list.new.items ≡ imported (given_of reader.now).text name (map import_of list.old.items)) }
 {
-    if is_imported(reader, list, text(reader, name.name)) {
+    if is_imported(reader, list, text_of(reader, name.name)) {
         return Ok(());
     }
     list.push((name.name, name.span))?;
@@ -194,7 +194,7 @@ fn ended(reader: &Reader<'_>, at: usize) -> Result<(), ParseFault>
 }
 
 /// The module that all the tokens are.
-pub(crate) fn module(reader: &Reader<'_>) -> Result<SrcModule, ParseFault>
+pub(crate) fn read_module(reader: &Reader<'_>) -> Result<SrcModule, ParseFault>
     ensures { IsParsed (given_of reader.now) (map token_of reader.now.tokens.now) result }
 {
     let (module, at) = whole(reader)?;

@@ -5,6 +5,7 @@ ghost use Rattle.surf_lex.specs.Fronts.{token_of as text_token};
 ghost use Rattle.surf_parse.specs.Answers.{AreNumbered, Grows, IsParsed, given_by, numbered};
 ghost use Rattle.surf_reader.specs.declared.error.ParseFault.TheVariants as faults;
 
+use crate::module::read_module;
 use crate::numbers::number;
 use cdle_names::NameTable;
 use std::alloc::Global;
@@ -39,5 +40,5 @@ pub fn parse(
         module: module.as_bytes(),
         end,
     };
-    module(&reader)
+    read_module(&reader)
 }

@@ -6,7 +6,7 @@ use Rattle.source_model.proofs.Said.{parsed_is_said}
 use Rattle.surf_tree.specs.Items.{module_of}
 use Rattle.surf_reader.specs.View.{token_of, given_of, here}
 use Rattle.surf_parse.proofs.Ahead.{parsed_by, wrong}
-use Rattle.surf_parse.proofs.module.module.Goals as goal
+use Rattle.surf_parse.proofs.module.read_module.Goals as goal
 
 pub returns : goal.returns
 returns c =
