@@ -14,7 +14,9 @@ ghost use Rattle.surf_reader.specs.View.{Closes, Counted, Ends, Fails, Tested, a
 use crate::binder::Binder;
 use crate::error::ParseFault;
 use crate::reader::Reader;
-use crate::spans::{over_class_and_type, over_classes, over_type_and_term, over_types, to_class, to_type};
+use crate::spans::{
+    over_class_and_type, over_classes, over_type_and_term, over_types, to_class, to_type,
+};
 use crate::token::Named;
 use cdle_model::Count;
 use cdle_names::{NameId, NoMemory, Span};
