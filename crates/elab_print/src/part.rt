@@ -15,8 +15,8 @@ pub(crate) enum PartStop {
     NoMemory,
 }
 
-/// Behind so many bytes no more are put, as if the memory were not there: a tree of shared nodes may have a text that no memory holds, and a
-/// text of a quarter of that length is refused by the reader.
+/// Behind so many bytes no more are put, as if the memory were not there: a tree of 60 shared nodes may have a text of 2^60 bytes, and a text of a
+/// quarter of this length is refused by the reader.
 const LONGEST: usize = 1 << 28;
 
 /// Some text.

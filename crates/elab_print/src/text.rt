@@ -1,8 +1,7 @@
 //! Files.
-ghost use Rattle.std.specs.Prelude.{◌≡◌, ◌<◌, IfErr, IfOk, Ok, length};
+ghost use Rattle.std.specs.Prelude.{◌≡◌, ◌<◌, ◌^◌, IfErr, IfOk, Ok, length};
 ghost use Rattle.print_model.specs.Printed.{file_text};
-ghost use Rattle.elab_print.specs.Layouts.{all_written};
-ghost use Rattle.elab_print.specs.Layouts.{IsFaultOf};
+ghost use Rattle.elab_print.specs.Layouts.{IsFaultOf, all_written};
 
 use crate::part::{PartStop, put, put_line};
 use cdle_model::Text;
@@ -19,7 +18,7 @@ pub enum PrintFault {
 /// The text of a file for these items, over the names of all items by their numbers, theirs last.
 #[tactic(auto, using(crate::proofs::Lines::line_step, crate::proofs::Lines::line_too_deep, crate::proofs::Lines::last_line, crate::proofs::Lines::first_line))]
 pub fn print_core(alloc: Global, items: &[OutItem], names: &[Text]) -> Result<Vec<u8>, PrintFault>
-    requires { length items.now < 4294967295 }
+    requires { length items.now < 2 ^ 32 }
     ensures ok { IfOk result (λ text. file_text names.now (all_written items.now) ≡ Ok text.items) }
     ensures err { IfErr result (IsFaultOf (file_text names.now (all_written items.now))) }
 {
