@@ -1,5 +1,5 @@
 -- Shifting, putting and solving are what a change makes of a tree.
-use Rattle.std.proofs.Common.{◌≡◌, ℕ, suc, ◌+◌, ◌<◌, ◌≤◌, Bool, true, false, cond, ltb, eqb, max, Option, Some, None, Result, Ok, Err, refl, sym, ap, ap₂, ◌∙◌, subst, arith}
+use Rattle.std.proofs.Common.{◌≡◌, ℕ, suc, ◌+◌, ◌<◌, ◌≤◌, Bool, true, false, cond, ltb, eqb, Option, Some, None, Result, Err, refl, sym, ap, ap₂, ◌∙◌, subst, arith}
 use Rattle.cdle_model.specs.Trees.{of_pure, eq_of, beta_of, phi_of, guide_of, star_of, unknown, Tree, var, name, leaf, unary, fun, apply, binary, bind, shift, put_var, put}
 use Rattle.cdle_model.specs.Forms.{star}
 use Rattle.cdle_model.specs.Depth.{depth, free_bound}
@@ -14,7 +14,7 @@ use Rattle.elab_tree.specs.declared.stop.TreeStop.TheVariants.{TooDeep, NoMemory
 use Rattle.elab_tree.specs.Sizes.{has_unknown}
 use Rattle.elab_tree.specs.Answers.{Gives, Makes, MakesBoth}
 use Rattle.elab_tree.specs.Solved.{Types, above, erased_types, solved_erased, solved, solutions, solution_at, or_unknown}
-use Rattle.elab_tree.specs.Changes.{Stage, annotated, unannotated, of_function, of_left, of_right, of_body, staged, Standing, replaced, first_of, part_of, stands, put_for, solution_in, fills, changed, leaves}
+use Rattle.elab_tree.specs.Changes.{Stage, annotated, unannotated, of_function, of_left, of_right, of_body, staged, Standing, replaced, first_of, part_of, stands, put_for, fills, changed, leaves}
 use Rattle.elab_tree.proofs.Filled.{neither_left, neither_right}
 
 -- ---- what stays as it is

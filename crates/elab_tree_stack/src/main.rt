@@ -77,11 +77,17 @@ fn on_type(alloc: Global, call: &str, levels: u32) -> Result<(), TreeStop> {
     Ok(())
 }
 
+/// A type of that many levels as the solution of the unknown 0.
+fn solution(alloc: Global, levels: u32) -> Result<Vec<Option<EType>>, NoMemory> {
+    let mut found = Vec::new(alloc);
+    found.push(Some(deep_type(alloc, levels)?))?;
+    Ok(found)
+}
+
 /// A type of that many levels is put for the unknown in one of that many levels.
 fn solve(alloc: Global, levels: u32) -> Result<(), TreeStop> {
     let tree = open_type(alloc, levels)?;
-    let mut found = Vec::new(alloc);
-    found.push(Some(deep_type(alloc, levels)?))?;
+    let found = solution(alloc, levels)?;
     let _tree = tree.solve(alloc, &found)?;
     Ok(())
 }
