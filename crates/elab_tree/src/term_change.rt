@@ -90,6 +90,7 @@ impl ETerm {
     }
 
     /// The same of a rewriting, whose guide stands under a variable of its own.
+    #[inline(never)]
     #[cycle(change_term)]
     #[tactic(auto, using(crate::proofs::Changes::changing))]
     fn change_rho(
@@ -111,6 +112,7 @@ impl ETerm {
     }
 
     /// The same of a variable.
+    #[inline(never)]
     #[cycle(change_term)]
     #[tactic(auto, using(crate::proofs::Changes::changing))]
     fn variable(
@@ -132,6 +134,7 @@ impl ETerm {
     }
 
     /// The tree raised by the binders over it.
+    #[inline(never)]
     #[cycle(change_term)]
     #[tactic(auto, using(crate::proofs::Changes::changing))]
     fn raised(&self, alloc: Global, under: u32) -> Result<ETerm, TreeStop>
@@ -144,6 +147,7 @@ impl ETerm {
     }
 
     /// What the change makes of this term and of another one beside it.
+    #[inline(never)]
     #[cycle(change_term)]
     #[tactic(auto, using(crate::proofs::Changes::changing))]
     fn change_both(
@@ -170,6 +174,7 @@ impl ETerm {
     }
 
     /// The node of that form.
+    #[inline(never)]
     pub(crate) fn made(alloc: Global, form: ETermForm) -> Result<ETerm, TreeStop>
         ensures { Makes (term_tree form) result }
     {
