@@ -48,7 +48,6 @@ impl ETerm {
 }
 
 /// The function that gives its argument.
-#[inline(never)]
 fn identity(alloc: Global) -> Result<EPure, NoMemory>
     ensures { IfOk result (λ t. t ≡ fn (var 0)) }
 {
@@ -58,7 +57,6 @@ fn identity(alloc: Global) -> Result<EPure, NoMemory>
 
 impl EPure {
     /// Takes the variable 0, which is not in the tree, out of the numbering.
-    #[inline(never)]
     #[tactic(auto, using(crate::proofs::Changes::lower_is))]
     fn lower(&self, alloc: Global) -> Result<EPure, NoMemory>
         ensures { IfOk result (λ t. t ≡ lowered self.now) }
@@ -123,7 +121,6 @@ impl EType {
     }
 
     /// The erasure of this type and that of another one.
-    #[inline(never)]
     #[cycle(erase)]
     fn erase_both(&self, alloc: Global, other: &EType) -> Result<(EGuide, EGuide), NoMemory>
         ensures first { IfOk result (λ both. both.0 ≡ erased self.now) }

@@ -72,7 +72,6 @@ impl EGuide {
     }
 
     /// The same of a variable.
-    #[inline(never)]
     #[cycle(change_guide)]
     #[tactic(auto, using(crate::proofs::Changes::changing))]
     fn variable(
@@ -94,7 +93,6 @@ impl EGuide {
     }
 
     /// The same of an unknown.
-    #[inline(never)]
     #[cycle(change_guide)]
     #[tactic(auto, using(crate::proofs::Changes::changing))]
     fn hole(
@@ -114,7 +112,6 @@ impl EGuide {
     }
 
     /// The tree raised by the binders over it.
-    #[inline(never)]
     #[cycle(change_guide)]
     #[tactic(auto, using(crate::proofs::Changes::changing))]
     fn raised(&self, alloc: Global, under: u32) -> Result<EGuide, TreeStop>
@@ -127,7 +124,6 @@ impl EGuide {
     }
 
     /// What the change makes of this guide and of another one, each below its own number of binders.
-    #[inline(never)]
     #[cycle(change_guide)]
     #[tactic(auto, using(crate::proofs::Changes::changing))]
     fn change_both(
@@ -155,7 +151,6 @@ impl EGuide {
     }
 
     /// The node of that form.
-    #[inline(never)]
     pub(crate) fn made(alloc: Global, form: EGuideForm) -> Result<EGuide, TreeStop>
         ensures { Makes (guide_tree form) result }
     {
@@ -195,7 +190,6 @@ impl EGuideKind {
     }
 
     /// What the change makes of this domain and of the part under its variable.
-    #[inline(never)]
     #[cycle(change_guide)]
     #[tactic(auto, using(crate::proofs::Changes::changing))]
     fn change_domain(
@@ -222,7 +216,6 @@ impl EGuideKind {
     }
 
     /// The node of that form.
-    #[inline(never)]
     pub(crate) fn made(alloc: Global, form: EGuideKindForm) -> Result<EGuideKind, TreeStop>
         ensures { Makes (guide_kind_tree form) result }
     {

@@ -42,7 +42,6 @@ impl EPure {
     }
 
     /// The same of a variable.
-    #[inline(never)]
     #[cycle(change_pure)]
     #[tactic(auto, using(crate::proofs::Changes::changing))]
     fn variable(
@@ -65,7 +64,6 @@ impl EPure {
     }
 
     /// The tree raised by the binders over it.
-    #[inline(never)]
     #[cycle(change_pure)]
     #[tactic(auto, using(crate::proofs::Changes::changing))]
     fn raised(&self, alloc: Global, under: u32) -> Result<EPure, TreeStop>
@@ -78,7 +76,6 @@ impl EPure {
     }
 
     /// What the change makes of this tree and of another one beside it.
-    #[inline(never)]
     #[cycle(change_pure)]
     #[tactic(auto, using(crate::proofs::Changes::changing))]
     pub(crate) fn change_both(
@@ -105,7 +102,6 @@ impl EPure {
     }
 
     /// The node of that form.
-    #[inline(never)]
     pub(crate) fn made(alloc: Global, form: EPureForm) -> Result<EPure, TreeStop>
         ensures { Makes (pure_tree form) result }
     {

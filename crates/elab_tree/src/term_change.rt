@@ -90,7 +90,6 @@ impl ETerm {
     }
 
     /// The same of a rewriting, whose guide stands under a variable of its own.
-    #[inline(never)]
     #[cycle(change_term)]
     #[tactic(auto, using(crate::proofs::Changes::changing))]
     fn change_rho(
@@ -112,7 +111,6 @@ impl ETerm {
     }
 
     /// The same of a variable.
-    #[inline(never)]
     #[cycle(change_term)]
     #[tactic(auto, using(crate::proofs::Changes::changing))]
     fn variable(
@@ -134,7 +132,6 @@ impl ETerm {
     }
 
     /// The tree raised by the binders over it.
-    #[inline(never)]
     #[cycle(change_term)]
     #[tactic(auto, using(crate::proofs::Changes::changing))]
     fn raised(&self, alloc: Global, under: u32) -> Result<ETerm, TreeStop>
@@ -147,7 +144,6 @@ impl ETerm {
     }
 
     /// What the change makes of this term and of another one beside it.
-    #[inline(never)]
     #[cycle(change_term)]
     #[tactic(auto, using(crate::proofs::Changes::changing))]
     fn change_both(
@@ -174,7 +170,6 @@ impl ETerm {
     }
 
     /// The node of that form.
-    #[inline(never)]
     pub(crate) fn made(alloc: Global, form: ETermForm) -> Result<ETerm, TreeStop>
         ensures { Makes (term_tree form) result }
     {

@@ -71,7 +71,6 @@ impl EType {
     }
 
     /// The same of a variable.
-    #[inline(never)]
     #[cycle(change_term)]
     #[tactic(auto, using(crate::proofs::Changes::changing))]
     fn variable(
@@ -93,7 +92,6 @@ impl EType {
     }
 
     /// The same of an unknown.
-    #[inline(never)]
     #[cycle(change_term)]
     #[tactic(auto, using(crate::proofs::Changes::changing))]
     fn hole(
@@ -113,7 +111,6 @@ impl EType {
     }
 
     /// The tree raised by the binders over it.
-    #[inline(never)]
     #[cycle(change_term)]
     #[tactic(auto, using(crate::proofs::Changes::changing))]
     fn raised(&self, alloc: Global, under: u32) -> Result<EType, TreeStop>
@@ -126,7 +123,6 @@ impl EType {
     }
 
     /// What the change makes of this type and of another one, each below its own number of binders.
-    #[inline(never)]
     #[cycle(change_term)]
     #[tactic(auto, using(crate::proofs::Changes::changing))]
     fn change_both(
@@ -147,7 +143,6 @@ impl EType {
     }
 
     /// What the change makes of this type and of a term, each below its own number of binders.
-    #[inline(never)]
     #[cycle(change_term)]
     #[tactic(auto, using(crate::proofs::Changes::changing))]
     pub(crate) fn change_with(
@@ -175,7 +170,6 @@ impl EType {
     }
 
     /// The node of that form.
-    #[inline(never)]
     pub(crate) fn made(alloc: Global, form: ETypeForm) -> Result<EType, TreeStop>
         ensures { Makes (type_tree form) result }
     {
@@ -215,7 +209,6 @@ impl EKind {
     }
 
     /// What the change makes of this domain and of the part under its variable.
-    #[inline(never)]
     #[cycle(change_term)]
     #[tactic(auto, using(crate::proofs::Changes::changing))]
     fn change_domain(
@@ -242,7 +235,6 @@ impl EKind {
     }
 
     /// The node of that form.
-    #[inline(never)]
     pub(crate) fn made(alloc: Global, form: EKindForm) -> Result<EKind, TreeStop>
         ensures { Makes (kind_tree form) result }
     {
