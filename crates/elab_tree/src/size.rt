@@ -1,8 +1,9 @@
 //! What a node keeps of its tree, so that nobody has to go over the tree for it.
 ghost use Rattle.std.specs.Prelude.{◌≡◌, ◌+◌, ◌-◌, ◌≤◌, max, ◌||◌};
 
-/// The deepest tree that is built: the drop of one goes down by one call for each level, and must not leave the stack.
-pub(crate) const DEEPEST: u32 = 32_768;
+/// The deepest tree that is built: the drop of one goes down by one call for each level, and must not leave the stack that a program has
+/// by default, as either compiler builds it.
+pub(crate) const DEEPEST: u32 = 16_384;
 
 /// What a node keeps of its tree.
 #[derive(Clone, Copy)]

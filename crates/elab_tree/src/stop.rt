@@ -7,7 +7,7 @@ use cdle_model::NoMemory;
 
 /// The deepest tree that is erased: a deeper one would leave the stack that a program has by default. Elaboration erases none, since it
 /// refuses trees deeper than 4,096.
-const DEEPEST_ERASED: u32 = 16_384;
+const DEEPEST_ERASED: u32 = 8192;
 
 /// Why a shift, a put or a solving gives no tree.
 #[derive(Debug, Drop)]

@@ -123,7 +123,7 @@ fn show_erased(stacks: &Stacks, rt: &HostRuntime) -> io::Result<()> {
 }
 
 /// What is left of a row.
-fn show(stacks: &Stacks, rt: &HostRuntime) -> io::Result<()> {
+fn show_left(stacks: &Stacks, rt: &HostRuntime) -> io::Result<()> {
     show_annotated(stacks, rt)?;
     show_erased(stacks, rt)?;
     for size in &stacks.sizes {
@@ -138,7 +138,7 @@ fn main(rt: HostRuntime) -> io::Result<()> {
         let line = line?;
         print!(rt; "=")?;
         match run_line(rt.alloc(), line.as_str()) {
-            Ok(stacks) => show(&stacks, &rt)?,
+            Ok(stacks) => show_left(&stacks, &rt)?,
             Err(Stop::TooDeep) => print!(rt; " too deep")?,
             Err(Stop::NoMemory) => print!(rt; " no memory")?,
             Err(Stop::NoRow) => print!(rt; " no row")?,

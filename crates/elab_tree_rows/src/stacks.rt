@@ -1,6 +1,6 @@
 //! What a row has made so far: a stack of trees for each class, and items.
 use elab_tree::{EGuide, EGuideKind, EKind, EPure, ETerm, EType, Env, NoMemory, TreeStop};
-use std::alloc::{AllocFailed, Global};
+use std::alloc::{AllocError, AllocFailed, Global};
 
 /// Why a row comes to no answer.
 #[derive(Drop)]
@@ -26,7 +26,13 @@ impl From<TreeStop> for Stop {
     }
 }
 
-impl<T> From<AllocFailed<T>> for Stop {
+impl From<AllocError> for Stop {
+    fn from(_: AllocError) -> Stop {
+        Stop::NoMemory
+    }
+}
+
+impl<T: Drop> From<AllocFailed<T>> for Stop {
     fn from(_: AllocFailed<T>) -> Stop {
         Stop::NoMemory
     }
