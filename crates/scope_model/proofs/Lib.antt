@@ -1,2 +1,11 @@
+pub mod Results
 pub mod Standings
 pub mod ScopedFits
+pub mod ItemsNamed
+pub mod ScopedItems
+pub mod OneScope
+pub mod DifferentNames
+pub mod Frames
+pub mod SaidNames
+pub mod TokenNames
+pub mod WordNames

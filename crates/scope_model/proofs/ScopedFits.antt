@@ -1,19 +1,16 @@
 -- A tree whose scope is known fits it.
-use Rattle.std.proofs.Common.{◌≡◌, ℕ, suc, ◌+◌, Bool, true, false, if◌then◌else◌, List, [], ◌∷◌, ◌++◌, Option, Some, None, Result, Ok, Err, length, map, refl, sym, ap, subst, ◌∙◌, arith, append_assoc, length-append}
-use Rattle.std.proofs.lemmas.List.{append-nil}
+use Rattle.std.proofs.Common.{◌≡◌, Bool, true, false, if◌then◌else◌, List, [], ◌∷◌, ◌++◌, Option, Some, None, Ok, Err, ◌⊎◌, inl, inr, refl, sym, subst}
+use Rattle.std.proofs.lemmas.Slice.Eq.{bytes_eq-Decides}
 use Rattle.cdle_model.specs.declared.grammar.Sort.{Sort}
 use Rattle.cdle_model.specs.declared.grammar.Sort.TheVariants.{OfTerm, OfType}
-use Rattle.cdle_model.specs.CoreNames.{Name, same_sort}
-use Rattle.source_model.specs.Source.{Span, use_of, leaf, one, two, bind, cases, branch, SourceBinder, pi_of, all_of, allt_of, tlam_of, xtlam_of, iota_of, kpi_of, kpit_of, lam_of, elam_of, xlam_of, unclassed_of, guide_of, CaseForm, mu_of, sigma_of, Pattern, Parameter, Constructor, def_item, type_item, data_item, NameUse, Tree, Item, Module}
-use Rattle.scope_model.specs.Scoped.{Reference, Scoped, ScopedItem, ScopedModule}
-use Rattle.scope_model.specs.ScopeNames.{Text, Binding, Variable, Bound, Exported, Around, Standing, stands}
-use Rattle.scope_model.specs.Scope.{ScopeFault, ◌>>=◌, left_sort, right_sort, domain_sort, body_sort, binder_sort, mode_sort, of_case, with_patterns, with_parameters, first_use, classed, with_class, wanted_as, bare, scoped, generated, of_sort, constructor_names, item_names, unless_taken, meets, texts, parameters, constructors, written, scoped_item, scoped_items, scoped_module, around, count, all_names, with_module}
-use Rattle.scope_model.specs.ScopeFits.{IsOfSort, case_bindings, under_patterns, under_parameters, FitsScope, ParametersFit, ConstructorsFit, ItemFits, ItemsFit, item_sorts, AreNumbered, sorts, known_sorts}
-use Rattle.scope_model.proofs.Standings.{bindings, IsAround, stands_fits}
-
-and_then : {A B : Type 0} (r : Result A ScopeFault) (f : A → Result B ScopeFault) (y : B) → (r >>= f) ≡ Ok y → (x : A) × (r ≡ Ok x) × (f x ≡ Ok y)
-and_then (Ok x) f y e = (x, refl, e)
-and_then (Err g) f y e = absurd cc
+use Rattle.cdle_model.specs.CoreNames.{same_sort}
+use Rattle.source_model.specs.Source.{Span, use_of, leaf, one, two, bind, cases, branch, SourceBinder, pi_of, all_of, allt_of, tlam_of, xtlam_of, iota_of, kpi_of, kpit_of, lam_of, elam_of, xlam_of, unclassed_of, guide_of, CaseForm, mu_of, sigma_of, Pattern, NameUse, Tree}
+use Rattle.scope_model.specs.Scoped.{Reference, Scoped}
+use Rattle.scope_model.specs.ScopeNames.{Text, Variable, Bound, Around, Standing, is_called, stands}
+use Rattle.scope_model.specs.Scope.{ScopeFault, ◌>>=◌, left_sort, right_sort, domain_sort, body_sort, binder_sort, mode_sort, of_case, with_patterns, is_use, first_of_two, unless_hidden, hides, first_use, classed, with_class, wanted_as, bare, scoped}
+use Rattle.scope_model.specs.ScopeFits.{Binders, binding_of, IsOfSort, case_bindings, under_patterns, FitsScope}
+use Rattle.scope_model.proofs.Results.{and_then}
+use Rattle.scope_model.proofs.Standings.{binders, IsSeen, AreSeen, all_seen, still_seen, seen_under, IsAround, stands_fits}
 
 same_is : (s t : Sort) → same_sort s t ≡ true → s ≡ t
 same_is OfTerm OfTerm e = refl
@@ -29,23 +26,25 @@ wanted_is : (p : Span) (s : Sort) (o : Option Standing) (r : Reference) → want
 wanted_is p s None r e = absurd cc
 wanted_is p s (Some x) r e = let b = if_same (same_sort s x.0) x.1 r _ e in let one = same_is s x.0 b.0 in λ i. Some (sym one i, b.1 i)
 
-name_fits : (a : Around) (xs : List Sort) (bs : List Bound) (p : Span) (s : Sort) (u : NameUse Text) (r : Reference) → IsAround a xs → wanted_as p s (stands a bs u) ≡ Ok r → IsOfSort (bindings bs) xs s r
-name_fits a xs bs p s u r h e = stands_fits a xs bs u (s, r) h (wanted_is p s (stands a bs u) r e)
+-- the part does not use the name
+abbrev Unused : List Bound → Sort → Tree Text → Text → Type 0
+Unused ob s t x = first_use x ob s t ≡ None
 
-bindings-append : (bs cs : List Bound) → bindings (bs ++ cs) ≡ bindings bs ++ bindings cs
-bindings-append [] cs = refl
-bindings-append (b ∷ bs) cs = ap (λ (l : List Binding). b.binding ∷ l) (bindings-append bs cs)
+name_fits : (a : Around) (xs : List Sort) (bs : List Bound) (vs : Binders) (p : Span) (s : Sort) (u : NameUse Text) (r : Reference) (Q : Text → Type 0) → IsAround a xs → AreSeen Q bs vs
+    → (is_use u.name u ≡ true → Q u.name → ⊥) → wanted_as p s (stands a bs u) ≡ Ok r → IsOfSort vs xs s r
+name_fits a xs bs vs p s u r Q h seen kept e = stands_fits a xs bs vs u (s, r) Q h seen kept (wanted_is p s (stands a bs u) r e)
 
-bindings-case : (f : CaseForm) (r : Option Text) → bindings (of_case f r) ≡ case_bindings f
-bindings-case mu_of r = refl
-bindings-case sigma_of r = refl
+binders-case : (f : CaseForm) (r : Option Text) → binders (of_case f r) ≡ case_bindings f
+binders-case mu_of r = refl
+binders-case sigma_of r = refl
 
-bindings-patterns : (ps : List (Pattern (Option Text))) (bs : List Bound) → bindings (with_patterns ps bs) ≡ under_patterns (bare ps) (bindings bs)
-bindings-patterns [] bs = refl
-bindings-patterns (p ∷ ps) bs = bindings-patterns ps (record { name = p.binder; binding = Variable (mode_sort p.mode) } ∷ bs)
+patterns-append : (ps : List (Pattern (Option Text))) (ob bs : List Bound) → with_patterns ps ob ++ bs ≡ with_patterns ps (ob ++ bs)
+patterns-append [] ob bs = refl
+patterns-append (p ∷ ps) ob bs = patterns-append ps (record { name = p.binder; binding = Variable (mode_sort p.mode) } ∷ ob) bs
 
-branch_bindings : (ps : List (Pattern (Option Text))) (ob bs : List Bound) → bindings (with_patterns ps (ob ++ bs)) ≡ under_patterns (bare ps) (bindings ob ++ bindings bs)
-branch_bindings ps ob bs = bindings-patterns ps (ob ++ bs) ∙ ap (under_patterns (bare ps)) (bindings-append ob bs)
+binders-patterns : (ps : List (Pattern (Option Text))) (ob : List Bound) (vs : Binders) → binders (with_patterns ps ob) ++ vs ≡ under_patterns (bare ps) (binders ob ++ vs)
+binders-patterns [] ob vs = refl
+binders-patterns (p ∷ ps) ob vs = binders-patterns ps (record { name = p.binder; binding = Variable (mode_sort p.mode) } ∷ ob) vs
 
 domain_class : (o : Option Sort) → OfType ≡ domain_sort (classed o)
 domain_class None = refl
@@ -89,169 +88,130 @@ body_same guide_of x u = refl
 body_same unclassed_of None u = refl
 body_same unclassed_of (Some x) u = body_class (first_use x [] OfTerm u)
 
-pub scoped_fits : (a : Around) (xs : List Sort) → IsAround a xs → (ob bs : List Bound) (s : Sort) (t : Tree Text) (v : Scoped) → scoped a ob bs s t ≡ Ok v → FitsScope (bindings ob) (bindings bs) xs s v
-unfolding scoped
-scoped_fits a xs h ob bs s (use_of p u) v e =
+-- ---- names that are not used
+
+first_none : (o p : Option Sort) → first_of_two o p ≡ None → o ≡ None
+first_none None p e = refl
+first_none (Some s) p e = absurd cc
+
+second_none : (o p : Option Sort) → first_of_two o p ≡ None → p ≡ None
+second_none None p e = e
+second_none (Some s) p e = absurd cc
+
+hidden_or_none : (b : Bool) (o : Option Sort) → unless_hidden b o ≡ None → (b ≡ true) ⊎ (o ≡ None)
+hidden_or_none true o e = inl refl
+hidden_or_none false o e = inr e
+
+not_used : (b : Bool) (s : Sort) → b ≡ true → (if b then Some s else None) ≡ None → ⊥
+not_used true s b e = absurd cc
+not_used false s b e = absurd cc
+
+called_is : (y x : Text) → is_called y (Some x) ≡ true → y ≡ x
+called_is y x e = (bytes_eq-Decides y x).0 e
+
+-- a `Λ` without a class has no first use
+class_seen : (x : Text) (o : Option Sort) (u : Tree Text) → first_use x [] OfTerm u ≡ o → IsSeen (Unused [] OfTerm u) (record { name = Some x; binding = Variable (binder_sort (classed o)) }) (binding_of (classed o))
+class_seen x None u e = λ y c. subst (λ (z : Text). first_use z [] OfTerm u ≡ None) (sym (called_is y x c)) e
+class_seen x (Some OfTerm) u e = refl
+class_seen x (Some OfType) u e = refl
+
+binder_seen : (f : SourceBinder) (x : Option Text) (u : Tree Text) → IsSeen (Unused [] (body_sort f) u) (record { name = x; binding = Variable (binder_sort (with_class f x u)) }) (binding_of (with_class f x u))
+binder_seen pi_of x u = refl
+binder_seen all_of x u = refl
+binder_seen allt_of x u = refl
+binder_seen tlam_of x u = refl
+binder_seen xtlam_of x u = refl
+binder_seen iota_of x u = refl
+binder_seen kpi_of x u = refl
+binder_seen kpit_of x u = refl
+binder_seen lam_of x u = refl
+binder_seen elam_of x u = refl
+binder_seen xlam_of x u = refl
+binder_seen guide_of x u = refl
+binder_seen unclassed_of None u = λ y c. absurd cc
+binder_seen unclassed_of (Some x) u = class_seen x (first_use x [] OfTerm u) u refl
+
+-- under a binder, which hides its name
+under_binder : (bs : List Bound) (vs : Binders) (f : SourceBinder) (x : Option Text) (t u : Tree Text) → AreSeen (λ y. first_of_two (first_use y [] (domain_sort f) t) (unless_hidden (is_called y x) (first_use y [] (body_sort f) u)) ≡ None) bs vs
+    → AreSeen (Unused [] (body_sort f) u) (record { name = x; binding = Variable (binder_sort (with_class f x u)) } ∷ bs) (binding_of (with_class f x u) ∷ vs)
+under_binder bs vs f x t u s = (
+  binder_seen f x u,
+  still_seen _ (λ y. (is_called y x ≡ true) ⊎ (first_use y [] (body_sort f) u ≡ None)) bs vs
+      (λ y e. hidden_or_none (is_called y x) (first_use y [] (body_sort f) u) (second_none (first_use y [] (domain_sort f) t) _ e)) s,
+)
+
+-- the uses of a branch, of its part and of the branches behind it
+abbrev branch_use : List Bound → NameUse Text → List (Pattern (Option Text)) → Tree Text → Tree Text → Text → Option Sort
+branch_use ob c ps t us y = first_of_two (if is_use y c then Some OfTerm else None) (first_of_two (unless_hidden (hides y (with_patterns ps ob)) (first_use y [] OfTerm t)) (first_use y ob OfTerm us))
+
+under_pattern : (ob bs : List Bound) (vs : Binders) (c : NameUse Text) (ps : List (Pattern (Option Text))) (t us : Tree Text) → AreSeen (λ y. branch_use ob c ps t us y ≡ None) bs vs
+    → AreSeen (Unused [] OfTerm t) (with_patterns ps (ob ++ bs)) (under_patterns (bare ps) (binders ob ++ vs))
+under_pattern ob bs vs c ps t us s =
+    let more : List Bound = with_patterns ps ob in
+    let seen : AreSeen (Unused [] OfTerm t) (more ++ bs) (binders more ++ vs) = seen_under (Unused [] OfTerm t) more bs vs
+    (still_seen _ (λ y. (hides y more ≡ true) ⊎ (first_use y [] OfTerm t ≡ None)) bs vs
+    (λ y e. hidden_or_none (hides y more) (first_use y [] OfTerm t) (first_none _ (first_use y ob OfTerm us) (second_none (if is_use y c then Some OfTerm else None) _ e))) s) in
+    subst (λ (l : List Bound). AreSeen (Unused [] OfTerm t) l (under_patterns (bare ps) (binders ob ++ vs))) (patterns-append ps ob bs)
+    (subst (λ (l : Binders). AreSeen (Unused [] OfTerm t) (more ++ bs) l) (binders-patterns ps ob vs) seen)
+
+behind_branch : (ob bs : List Bound) (vs : Binders) (c : NameUse Text) (ps : List (Pattern (Option Text))) (t us : Tree Text) → AreSeen (λ y. branch_use ob c ps t us y ≡ None) bs vs → AreSeen (Unused ob OfTerm us) bs vs
+behind_branch ob bs vs c ps t us s = still_seen _ (Unused ob OfTerm us) bs vs
+    (λ y e. second_none (unless_hidden (hides y (with_patterns ps ob)) (first_use y [] OfTerm t)) _ (second_none (if is_use y c then Some OfTerm else None) _ e)) s
+
+scoped_fits : (a : Around) (xs : List Sort) → IsAround a xs → (ob bs : List Bound) (vs : Binders) (s : Sort) (t : Tree Text) (v : Scoped) → AreSeen (Unused ob s t) bs vs → scoped a ob bs s t ≡ Ok v → FitsScope (binders ob) vs xs s v
+unfolding scoped first_use
+scoped_fits a xs h ob bs vs s (use_of p u) v seen e =
     let r = and_then (wanted_as p s (stands a bs u)) (λ r. Ok (use_of p r)) v e in
     let same : use_of p r.0 ≡ v = cc in
-    subst (FitsScope (bindings ob) (bindings bs) xs s) same (name_fits a xs bs p s u r.0 h r.1)
-scoped_fits a xs h ob bs s (leaf p l) v e = let same : leaf p l ≡ v = cc in subst (FitsScope (bindings ob) (bindings bs) xs s) same tt
-scoped_fits a xs h ob bs s (one p j t) v e =
+    subst (FitsScope (binders ob) vs xs s) same (name_fits a xs bs vs p s u r.0 (Unused ob s (use_of p u)) h seen (not_used (is_use u.name u) s) r.1)
+scoped_fits a xs h ob bs vs s (leaf p l) v seen e = let same : leaf p l ≡ v = cc in subst (FitsScope (binders ob) vs xs s) same tt
+scoped_fits a xs h ob bs vs s (one p j t) v seen e =
     let r = and_then (scoped a [] bs OfTerm t) (λ w. Ok (one p j w)) v e in
     let same : one p j r.0 ≡ v = cc in
-    subst (FitsScope (bindings ob) (bindings bs) xs s) same (scoped_fits a xs h [] bs OfTerm t r.0 r.1)
-scoped_fits a xs h ob bs s (two p j t u) v e =
+    subst (FitsScope (binders ob) vs xs s) same (scoped_fits a xs h [] bs vs OfTerm t r.0 seen r.1)
+scoped_fits a xs h ob bs vs s (two p j t u) v seen e =
     let r = and_then (scoped a [] bs (left_sort j) t) (λ w. scoped a [] bs (right_sort j) u >>= λ z. Ok (two p j w z)) v e in
     let q = and_then (scoped a [] bs (right_sort j) u) (λ z. Ok (two p j r.0 z)) v r.2 in
     let same : two p j r.0 q.0 ≡ v = cc in
-    subst (FitsScope (bindings ob) (bindings bs) xs s) same (scoped_fits a xs h [] bs (left_sort j) t r.0 r.1, scoped_fits a xs h [] bs (right_sort j) u q.0 q.1)
-scoped_fits a xs h ob bs s (bind p f x t u) v e =
+    let left = still_seen (Unused ob s (two p j t u)) (Unused [] (left_sort j) t) bs vs (λ y f. first_none (first_use y [] (left_sort j) t) (first_use y [] (right_sort j) u) f) seen in
+    let right = still_seen (Unused ob s (two p j t u)) (Unused [] (right_sort j) u) bs vs (λ y f. second_none (first_use y [] (left_sort j) t) (first_use y [] (right_sort j) u) f) seen in
+    subst (FitsScope (binders ob) vs xs s) same (scoped_fits a xs h [] bs vs (left_sort j) t r.0 left r.1, scoped_fits a xs h [] bs vs (right_sort j) u q.0 right q.1)
+scoped_fits a xs h ob bs vs s (bind p f x t u) v seen e =
     let g = with_class f x u in
     let b : Bound = record { name = x; binding = Variable (binder_sort g) } in
     let r = and_then (scoped a [] bs (domain_sort f) t) (λ w. scoped a [] (b ∷ bs) (body_sort f) u >>= λ z. Ok (bind p g tt w z)) v e in
     let q = and_then (scoped a [] (b ∷ bs) (body_sort f) u) (λ z. Ok (bind p g tt r.0 z)) v r.2 in
     let same : bind p g tt r.0 q.0 ≡ v = cc in
-    let one = scoped_fits a xs h [] bs (domain_sort f) t r.0 r.1 in
-    let two = scoped_fits a xs h [] (b ∷ bs) (body_sort f) u q.0 q.1 in
-    subst (FitsScope (bindings ob) (bindings bs) xs s) same
-    (subst (λ (o : Sort). FitsScope [] (bindings bs) xs o r.0) (domain_same f x u) one, subst (λ (o : Sort). FitsScope [] (Variable (binder_sort g) ∷ bindings bs) xs o q.0) (body_same f x u) two)
-scoped_fits a xs h ob bs s (cases p f x t m us) v e =
+    let domain = still_seen (Unused ob s (bind p f x t u)) (Unused [] (domain_sort f) t) bs vs (λ y k. first_none (first_use y [] (domain_sort f) t) (unless_hidden (is_called y x) (first_use y [] (body_sort f) u)) k) seen in
+    let one = scoped_fits a xs h [] bs vs (domain_sort f) t r.0 domain r.1 in
+    let two = scoped_fits a xs h [] (b ∷ bs) (binding_of g ∷ vs) (body_sort f) u q.0 (under_binder bs vs f x t u seen) q.1 in
+    subst (FitsScope (binders ob) vs xs s) same
+    (subst (λ (o : Sort). FitsScope [] vs xs o r.0) (domain_same f x u) one, subst (λ (o : Sort). FitsScope [] (binding_of g ∷ vs) xs o q.0) (body_same f x u) two)
+scoped_fits a xs h ob bs vs s (cases p f x t m us) v seen e =
     let r = and_then (scoped a [] bs OfTerm t) (λ w. scoped a [] bs OfType m >>= λ n. scoped a (of_case f x) bs OfTerm us >>= λ ws. Ok (cases p f tt w n ws)) v e in
     let q = and_then (scoped a [] bs OfType m) (λ n. scoped a (of_case f x) bs OfTerm us >>= λ ws. Ok (cases p f tt r.0 n ws)) v r.2 in
     let k = and_then (scoped a (of_case f x) bs OfTerm us) (λ ws. Ok (cases p f tt r.0 q.0 ws)) v q.2 in
     let same : cases p f tt r.0 q.0 k.0 ≡ v = cc in
-    let three = scoped_fits a xs h (of_case f x) bs OfTerm us k.0 k.1 in
-    subst (FitsScope (bindings ob) (bindings bs) xs s) same
-    (scoped_fits a xs h [] bs OfTerm t r.0 r.1, scoped_fits a xs h [] bs OfType m q.0 q.1, subst (λ (l : List Binding). FitsScope l (bindings bs) xs OfTerm k.0) (bindings-case f x) three)
-scoped_fits a xs h ob bs s (branch p c ps t us) v e =
+    let rest : AreSeen (λ y. first_of_two (first_use y [] OfType m) (first_use y (of_case f x) OfTerm us) ≡ None) bs vs =
+    still_seen (Unused ob s (cases p f x t m us)) _ bs vs (λ y z. second_none (first_use y [] OfTerm t) _ z) seen in
+    let taken = still_seen (Unused ob s (cases p f x t m us)) (Unused [] OfTerm t) bs vs (λ y z. first_none (first_use y [] OfTerm t) _ z) seen in
+    let motive = still_seen _ (Unused [] OfType m) bs vs (λ y z. first_none (first_use y [] OfType m) (first_use y (of_case f x) OfTerm us) z) rest in
+    let branches = still_seen _ (Unused (of_case f x) OfTerm us) bs vs (λ y z. second_none (first_use y [] OfType m) (first_use y (of_case f x) OfTerm us) z) rest in
+    let three = scoped_fits a xs h (of_case f x) bs vs OfTerm us k.0 branches k.1 in
+    subst (FitsScope (binders ob) vs xs s) {x = cases p f tt r.0 q.0 k.0} same
+    (scoped_fits a xs h [] bs vs OfTerm t r.0 taken r.1, scoped_fits a xs h [] bs vs OfType m q.0 motive q.1, subst (λ (l : Binders). FitsScope l vs xs OfTerm k.0) (binders-case f x) three)
+scoped_fits a xs h ob bs vs s (branch p c ps t us) v seen e =
     let n = and_then (wanted_as p OfTerm (stands a bs c)) (λ r. scoped a [] (with_patterns ps (ob ++ bs)) OfTerm t >>= λ w. scoped a ob bs OfTerm us >>= λ ws. Ok (branch p r (bare ps) w ws)) v e in
     let r = and_then (scoped a [] (with_patterns ps (ob ++ bs)) OfTerm t) (λ w. scoped a ob bs OfTerm us >>= λ ws. Ok (branch p n.0 (bare ps) w ws)) v n.2 in
     let k = and_then (scoped a ob bs OfTerm us) (λ ws. Ok (branch p n.0 (bare ps) r.0 ws)) v r.2 in
     let same : branch p n.0 (bare ps) r.0 k.0 ≡ v = cc in
-    let one = scoped_fits a xs h [] (with_patterns ps (ob ++ bs)) OfTerm t r.0 r.1 in
-    subst (FitsScope (bindings ob) (bindings bs) xs s) same
-    (name_fits a xs bs p OfTerm c n.0 h n.1, subst (λ (l : List Binding). FitsScope [] l xs OfTerm r.0) (branch_bindings ps ob bs) one, scoped_fits a xs h ob bs OfTerm us k.0 k.1)
+    let one = scoped_fits a xs h [] (with_patterns ps (ob ++ bs)) (under_patterns (bare ps) (binders ob ++ vs)) OfTerm t r.0 (under_pattern ob bs vs c ps t us seen) r.1 in
+    subst (FitsScope (binders ob) vs xs s) {x = branch p n.0 (bare ps) r.0 k.0} same (
+      name_fits a xs bs vs p OfTerm c n.0 (λ y. branch_use ob c ps t us y ≡ None) h seen (λ b z. not_used (is_use c.name c) OfTerm b (first_none (if is_use c.name c then Some OfTerm else None) _ z)) n.1,
+      one,
+      scoped_fits a xs h ob bs vs OfTerm us k.0 (behind_branch ob bs vs c ps t us seen) k.1,
+    )
 
--- ---- items
-
-taken_case : {A : Type 0} (b : Bool) (g : ScopeFault) (r : Result A ScopeFault) (x : A) → (if b then Err g else r) ≡ Ok x → r ≡ Ok x
-taken_case true g r x e = absurd cc
-taken_case false g r x e = e
-
-not_taken : {A : Type 0} (p : Span) (ns taken : List Text) (r : Result A ScopeFault) (x : A) → unless_taken p ns taken r ≡ Ok x → r ≡ Ok x
-not_taken p ns taken r x e = taken_case (meets ns taken) _ r x e
-
-parameters_fit : (a : Around) (xs : List Sort) → IsAround a xs → (bs : List Bound) (ps : List (Parameter (Option Text) (NameUse Text))) (qs : List (Parameter (Unit {0}) Reference)) → parameters a bs ps ≡ Ok qs → ParametersFit (bindings bs) xs qs
-parameters_fit a xs h bs [] qs e = let same : [] ≡ qs = cc in subst (ParametersFit (bindings bs) xs) same tt
-parameters_fit a xs h bs (p ∷ ps) qs e =
-    let b : Bound = record { name = p.binder; binding = Variable p.sort } in
-    let k = and_then (scoped a [] bs OfType p.class) _ qs e in
-    let r = and_then (parameters a (b ∷ bs) ps) (λ rs. Ok (record { span = p.span; binder = tt; sort = p.sort; class = k.0 } ∷ rs)) qs k.2 in
-    let same : (record { span = p.span; binder = tt; sort = p.sort; class = k.0 }) ∷ r.0 ≡ qs = cc in
-    subst (ParametersFit (bindings bs) xs) same (scoped_fits a xs h [] bs OfType p.class k.0 k.1, parameters_fit a xs h (b ∷ bs) ps r.0 r.1)
-
-constructors_fit : (a : Around) (xs : List Sort) → IsAround a xs → (bs : List Bound) (taken : List Text) (cs : List (Constructor Text (Option Text) (NameUse Text))) (ds : List (Constructor Text (Unit {0}) Reference)) → constructors a bs taken cs ≡ Ok ds → ConstructorsFit (bindings bs) xs ds
-constructors_fit a xs h bs taken [] ds e = let same : [] ≡ ds = cc in subst (ConstructorsFit (bindings bs) xs) same tt
-constructors_fit a xs h bs taken (c ∷ cs) ds e =
-    let f = not_taken c.span (c.name ∷ []) taken _ ds e in
-    let k = and_then (scoped a [] bs OfType c.type) _ ds f in
-    let r = and_then (constructors a bs (c.name ∷ taken) cs) (λ rs. Ok (record { span = c.span; name = written a c.name; type = k.0 } ∷ rs)) ds k.2 in
-    let same : (record { span = c.span; name = written a c.name; type = k.0 }) ∷ r.0 ≡ ds = cc in
-    subst (ConstructorsFit (bindings bs) xs) same (scoped_fits a xs h [] bs OfType c.type k.0 k.1, constructors_fit a xs h bs (c.name ∷ taken) cs r.0 r.1)
-
-bindings-parameters : (a : Around) (ps : List (Parameter (Option Text) (NameUse Text))) (bs : List Bound) (qs : List (Parameter (Unit {0}) Reference)) → parameters a bs ps ≡ Ok qs → (cs : List Bound) → bindings (with_parameters ps cs) ≡ under_parameters qs (bindings cs)
-bindings-parameters a [] bs qs e cs = let same : [] ≡ qs = cc in subst (λ (l : List (Parameter (Unit {0}) Reference)). bindings cs ≡ under_parameters l (bindings cs)) same refl
-bindings-parameters a (p ∷ ps) bs qs e cs =
-    let b : Bound = record { name = p.binder; binding = Variable p.sort } in
-    let k = and_then (scoped a [] bs OfType p.class) _ qs e in
-    let r = and_then (parameters a (b ∷ bs) ps) (λ rs. Ok (record { span = p.span; binder = tt; sort = p.sort; class = k.0 } ∷ rs)) qs k.2 in
-    let same : (record { span = p.span; binder = tt; sort = p.sort; class = k.0 }) ∷ r.0 ≡ qs = cc in
-    subst (λ (l : List (Parameter (Unit {0}) Reference)). bindings (with_parameters (p ∷ ps) cs) ≡ under_parameters l (bindings cs)) same (bindings-parameters a ps (b ∷ bs) r.0 r.1 (b ∷ cs))
-
-constructor_sorts : (a : Around) (bs : List Bound) (taken : List Text) (cs : List (Constructor Text (Option Text) (NameUse Text))) (ds : List (Constructor Text (Unit {0}) Reference)) → constructors a bs taken cs ≡ Ok ds → map (λ d. OfTerm) ds ≡ sorts (constructor_names cs)
-constructor_sorts a bs taken [] ds e = let same : [] ≡ ds = cc in subst (λ (l : List (Constructor Text (Unit {0}) Reference)). map (λ d. OfTerm) l ≡ []) same refl
-constructor_sorts a bs taken (c ∷ cs) ds e =
-    let f = not_taken c.span (c.name ∷ []) taken _ ds e in
-    let k = and_then (scoped a [] bs OfType c.type) _ ds f in
-    let r = and_then (constructors a bs (c.name ∷ taken) cs) (λ rs. Ok (record { span = c.span; name = written a c.name; type = k.0 } ∷ rs)) ds k.2 in
-    let same : (record { span = c.span; name = written a c.name; type = k.0 }) ∷ r.0 ≡ ds = cc in
-    subst (λ (l : List (Constructor Text (Unit {0}) Reference)). map (λ d. OfTerm) l ≡ sorts (constructor_names (c ∷ cs))) same (ap (λ (l : List Sort). OfTerm ∷ l) (constructor_sorts a bs (c.name ∷ taken) cs r.0 r.1))
-
-sorts-append : (xs ys : List Name) → sorts (xs ++ ys) ≡ sorts xs ++ sorts ys
-sorts-append [] ys = refl
-sorts-append (x ∷ xs) ys = ap (λ (l : List Sort). x.sort ∷ l) (sorts-append xs ys)
-
--- an item fits, and gives items of its names' sorts
-abbrev Placed : List Sort → Item Text → ScopedItem → Type 0
-Placed xs i j = ItemFits xs j × (item_sorts j ≡ sorts (item_names i))
-
-item_fits : (a : Around) (xs : List Sort) → IsAround a xs → (i : Item Text) (j : ScopedItem) → scoped_item a i ≡ Ok j → Placed xs i j
-item_fits a xs h (def_item p x t u) j e =
-    let f = not_taken p (x ∷ []) (texts a.own) _ j e in
-    let k = and_then (scoped a [] [] OfType t) (λ v. scoped a [] [] OfTerm u >>= λ w. Ok (def_item p (written a x) v w)) j f in
-    let r = and_then (scoped a [] [] OfTerm u) (λ w. Ok (def_item p (written a x) k.0 w)) j k.2 in
-    let same : def_item p (written a x) k.0 r.0 ≡ j = cc in
-    subst (Placed xs (def_item p x t u)) same ((scoped_fits a xs h [] [] OfType t k.0 k.1, scoped_fits a xs h [] [] OfTerm u r.0 r.1), refl)
-item_fits a xs h (type_item p x t u) j e =
-    let f = not_taken p (x ∷ []) (texts a.own) _ j e in
-    let k = and_then (scoped a [] [] OfType t) (λ v. scoped a [] [] OfType u >>= λ w. Ok (type_item p (written a x) v w)) j f in
-    let r = and_then (scoped a [] [] OfType u) (λ w. Ok (type_item p (written a x) k.0 w)) j k.2 in
-    let same : type_item p (written a x) k.0 r.0 ≡ j = cc in
-    subst (Placed xs (type_item p x t u)) same ((scoped_fits a xs h [] [] OfType t k.0 k.1, scoped_fits a xs h [] [] OfType u r.0 r.1), refl)
-item_fits a xs h (data_item p d ps cs) j e =
-    let b : Bound = record { name = Some d; binding = Variable OfType } in
-    let taken : List Text = generated d ++ texts a.own in
-    let f = not_taken p (generated d) (texts a.own) _ j e in
-    let k = and_then (parameters a [] ps) (λ qs. constructors a (b ∷ with_parameters ps []) taken cs >>= λ ds. Ok (data_item p (written a d) qs ds)) j f in
-    let r = and_then (constructors a (b ∷ with_parameters ps []) taken cs) (λ ds. Ok (data_item p (written a d) k.0 ds)) j k.2 in
-    let same : data_item p (written a d) k.0 r.0 ≡ j = cc in
-    let fit = constructors_fit a xs h (b ∷ with_parameters ps []) taken cs r.0 r.1 in
-    let all : item_sorts (data_item p (written a d) k.0 r.0) ≡ sorts (item_names (data_item p d ps cs)) =
-    ap (λ (l : List Sort). OfType ∷ OfTerm ∷ OfType ∷ (l ++ (OfTerm ∷ OfTerm ∷ []))) (constructor_sorts a (b ∷ with_parameters ps []) taken cs r.0 r.1)
-    ∙ ap (λ (l : List Sort). OfType ∷ OfTerm ∷ OfType ∷ l) (sym (sorts-append (constructor_names cs) (of_sort OfTerm _ ∷ of_sort OfTerm _ ∷ []))) in
-    subst (Placed xs (data_item p d ps cs)) same ((parameters_fit a xs h [] ps k.0 k.1, subst (λ (l : List Binding). ConstructorsFit (Variable OfType ∷ l) xs r.0) (bindings-parameters a ps [] k.0 k.1 []) fit), all)
-
-items_fit : (a : Around) (xs : List Sort) → IsAround a xs → (is : List (Item Text)) (js : List ScopedItem) → scoped_items a is ≡ Ok js → ItemsFit xs js
-unfolding scoped_items
-items_fit a xs h [] js e = let same : [] ≡ js = cc in subst (ItemsFit xs) same tt
-items_fit a xs h (i ∷ is) js e =
-    let b : Around = record a { own = a.own ++ item_names i } in
-    let j = and_then (scoped_item a i) (λ j. scoped_items b is >>= λ ks. Ok (j ∷ ks)) js e in
-    let ks = and_then (scoped_items b is) (λ ks. Ok (j.0 ∷ ks)) js j.2 in
-    let same : j.0 ∷ ks.0 ≡ js = cc in
-    let one = item_fits a xs h i j.0 j.1 in
-    let all : xs ++ item_sorts j.0 ≡ known_sorts a.modules ++ sorts (a.own ++ item_names i) =
-    (λ k. h.all k ++ one.1 k) ∙ append_assoc (known_sorts a.modules) (sorts a.own) (sorts (item_names i)) ∙ ap (λ (l : List Sort). known_sorts a.modules ++ l) (sym (sorts-append a.own (item_names i))) in
-    subst (ItemsFit xs) same (one.0, items_fit b (xs ++ item_sorts j.0) (record { numbered = h.numbered; first = h.first; all = all }) is ks.0 ks.1)
-
--- ---- modules
-
-length-sorts : (ys : List Name) → length (sorts ys) ≡ length ys
-length-sorts [] = refl
-length-sorts (y ∷ ys) = ap (λ (n : ℕ). suc n) (length-sorts ys)
-
-count-known : (ys : List Exported) → count ys ≡ length (known_sorts ys)
-count-known [] = refl
-count-known (y ∷ ys) = omega (arith, count-known ys, length-sorts y.items, length-append (sorts y.items) (known_sorts ys))
-
-good : ScopedModule → Result ScopedModule ScopeFault
-good q = Ok q
-
-ok_items : (q r : ScopedModule) → good q ≡ good r → q.items ≡ r.items
-unfolding good
-ok_items q r e = let same : q ≡ r = cc in ap (λ (x : ScopedModule). x.items) same
-
-pub module_fits : (known : List Exported) (m : Module Text) (r : ScopedModule) → AreNumbered 0 known → scoped_module known m ≡ Ok r → ItemsFit (known_sorts known) r.items
-unfolding good
-module_fits known m r n e =
-    let is = and_then (scoped_items (around known m) m.items) (λ is. Ok (record { first = count known; items = is })) r e in
-    let same : is.0 ≡ r.items = ok_items (record { first = count known; items = is.0 }) r is.2 in
-    let all : known_sorts known ≡ known_sorts known ++ [] = sym (append-nil (known_sorts known)) in
-    subst (ItemsFit (known_sorts known)) same (items_fit (around known m) (known_sorts known) (record { numbered = n; first = count-known known; all = all }) m.items is.0 is.1)
-
-numbered_more : (n : ℕ) (known : List Exported) (y : Exported) → AreNumbered n known → y.first ≡ n + count known → AreNumbered n (known ++ (y ∷ []))
-numbered_more n [] y a e = (omega (arith, e), tt)
-numbered_more n (x ∷ xs) y a e = (a.0, numbered_more (n + length x.items) xs y a.1 (omega (arith, e)))
-
-pub modules_numbered : (known : List Exported) (m : Module Text) → AreNumbered 0 known → AreNumbered 0 (with_module known m)
-modules_numbered known m a = numbered_more 0 known (record { name = m.name; first = count known; items = all_names m.items }) a (omega arith)
+-- under binders all of which it may use
+pub open_fits : (a : Around) (xs : List Sort) → IsAround a xs → (bs : List Bound) (s : Sort) (t : Tree Text) (v : Scoped) → scoped a [] bs s t ≡ Ok v → FitsScope [] (binders bs) xs s v
+open_fits a xs h bs s t v e = scoped_fits a xs h [] bs (binders bs) s t v (all_seen (Unused [] s t) bs) e

@@ -17,6 +17,7 @@ pub data Binding : Type 0 where
   Variable : Sort → Binding
   Proof : Binding
 
+-- a binder by its name, if it has one
 pub record Bound : Type 0 where
   pub name : Option Text
   pub binding : Binding
@@ -36,13 +37,16 @@ pub record Around : Type 0 where
   pub first : ℕ
   pub own : List Name
 
+-- what a name stands for, and whether that is a term or a type
 abbrev pub Standing : Type 0
 Standing = Sort × Reference
 
+-- the binder has that name
 abbrev pub is_called : Text → Option Text → Bool
 is_called w None = false
 is_called w (Some x) = bytes_eq w x
 
+-- what a name stands for by a binder, which has this number; the name of a proof is `to/r`
 abbrev pub standing : ℕ → Binding → Standing
 standing n (Variable s) = (s, variable n)
 standing n Proof = (OfTerm, cast n)
@@ -52,6 +56,7 @@ unfoldable pub bound : Text → ℕ → List Bound → Option Standing
 bound w n [] = None
 bound w n (b ∷ bs) = if is_called w b.name then Some (standing n b.binding) else bound w (n + 1) bs
 
+-- the first that there is
 abbrev pub or_else : Option Standing → Option Standing → Option Standing
 or_else (Some x) other = Some x
 or_else None other = other
@@ -71,9 +76,11 @@ unfoldable pub imported : List Text → Text → List Exported → Option Standi
 imported [] w known = None
 imported (m ∷ ms) w known = or_else (exported m w known) (imported ms w known)
 
+-- the module that every other knows without importing it
 abbrev pub prelude : Text
 prelude = codes "prelude"
 
+-- the name is one of these
 abbrev pub is_one_of : Text → List Text → Bool
 is_one_of w [] = false
 is_one_of w (x ∷ xs) = bytes_eq w x || is_one_of w xs
@@ -88,6 +95,7 @@ stands_in a m w =
     if bytes_eq m a.name then listed w a.first a.own
     else (if bytes_eq m prelude || is_one_of m a.imports then exported m w a.modules else None)
 
+-- a name that may have a module's before it
 abbrev pub with_owner : Around → List Bound → Option Text → Text → Option Standing
 with_owner a bs None w = stands_alone a bs w
 with_owner a bs (Some m) w = stands_in a m w

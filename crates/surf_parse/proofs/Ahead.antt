@@ -15,16 +15,16 @@ use Rattle.source_model.specs.Parsing.{Given, Fault, TooMany, State, Reading, on
 use Rattle.source_model.specs.SurfaceText.{Reads, begins, left, makes, tests, ReadsAll, end, more}
 use Rattle.source_model.proofs.Said.{run_is}
 use Rattle.source_model.proofs.Turns.{one_test, run_turn}
-use Rattle.surf_parse.specs.declared.token.Named.{Named}
-use Rattle.surf_parse.specs.declared.reader.Reader.{Reader}
-use Rattle.surf_parse.specs.declared.error.ParseFault.{ParseFault}
-use Rattle.surf_parse.specs.declared.error.ParseFault.TheVariants as faults
+use Rattle.surf_reader.specs.declared.token.Named.{Named}
+use Rattle.surf_reader.specs.declared.reader.Reader.{Reader}
+use Rattle.surf_reader.specs.declared.error.ParseFault.{ParseFault}
+use Rattle.surf_reader.specs.declared.error.ParseFault.TheVariants as faults
 use Rattle.surf_tree.specs.Forms.{place}
 use Rattle.surf_parse.specs.Answers.{IsParsed}
 use Rattle.surf_parse.specs.Outer.{imported}
-use Rattle.surf_parse.specs.View.{Fails, Goes, Next, before, given_of, here, rest, token_of}
-use Rattle.surf_parse.proofs.Steps as steps
-use Rattle.surf_parse.proofs.Steps.{bind_done, fails_on, fails_same, one_by, told_same, turn_then}
+use Rattle.surf_reader.specs.View.{Fails, Goes, Next, before, given_of, here, rest, token_of}
+use Rattle.surf_reader.proofs.Steps as steps
+use Rattle.surf_reader.proofs.Steps.{bind_done, fails_on, fails_same, one_by, told_same, turn_then}
 
 -- ---- no token comes back
 

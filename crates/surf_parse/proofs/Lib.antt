@@ -1,5 +1,2 @@
-pub mod Steps
-pub mod Rules
-pub mod Loops
 pub mod Ahead
 pub mod Numbered

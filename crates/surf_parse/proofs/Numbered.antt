@@ -16,9 +16,10 @@ use Rattle.source_model.specs.declared.token.TokenKind.{TokenKind}
 use Rattle.source_model.specs.declared.token.TokenKind.TheVariants as k
 use Rattle.surf_lex.specs.declared.tokens.Token as lexer
 use Rattle.surf_tree.specs.Forms.{place}
-use Rattle.surf_parse.specs.declared.token.Named.{Named}
-use Rattle.surf_parse.specs.View.{token_of}
-use Rattle.surf_parse.specs.Answers.{AreNumbered, Grows, bytes_of, numbered, text_token}
+use Rattle.surf_reader.specs.declared.token.Named.{Named}
+use Rattle.surf_reader.specs.View.{token_of}
+use Rattle.surf_lex.specs.Fronts.{token_of as text_token}
+use Rattle.surf_parse.specs.Answers.{AreNumbered, Grows, bytes_of, numbered}
 use Rattle.surf_parse.specs.Numbers.{IsNumber, IsPlaced}
 
 -- ---- tables

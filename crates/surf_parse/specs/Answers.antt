@@ -5,20 +5,15 @@ use Rattle.source_model.specs.Grammar.{Token}
 use Rattle.source_model.specs.Rows.{same_kind}
 use Rattle.source_model.specs.Parsing.{Given, Unexpected, TooDeep, TooMany, IsFirstFault}
 use Rattle.source_model.specs.SurfaceText.{Says}
-use Rattle.source_model.specs.SurfaceTokens.{TextToken}
 use Rattle.source_model.specs.declared.token.TokenKind.TheVariants as k
 use Rattle.surf_lex.specs.declared.tokens.Token as lexer
 use Rattle.surf_tree.specs.Forms.{place}
 use Rattle.surf_tree.specs.Items.{module_of}
 use Rattle.surf_tree.specs.declared.items.SrcModule.{SrcModule}
-use Rattle.surf_parse.specs.declared.error.ParseFault.{ParseFault}
-use Rattle.surf_parse.specs.declared.error.ParseFault.TheVariants as faults
+use Rattle.surf_reader.specs.declared.error.ParseFault.{ParseFault}
+use Rattle.surf_reader.specs.declared.error.ParseFault.TheVariants as faults
 
 -- ---- names by number
-
--- the token of the definitions that a token of the lexer is
-abbrev pub text_token : lexer.Token → TextToken
-text_token t = record { kind = t.kind; span = place t.span }
 
 -- the bytes of a token
 abbrev pub bytes_of : List ℕ → lexer.Token → List ℕ

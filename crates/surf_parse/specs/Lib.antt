@@ -1,4 +1,3 @@
-pub mod View
 pub mod Answers
 pub mod Outer
 pub mod Numbers

@@ -19,11 +19,11 @@ use Rattle.surf_tree.specs.declared.items.SrcCtor.{SrcCtor}
 use Rattle.surf_tree.specs.declared.items.SrcItem.{SrcItem}
 use Rattle.surf_tree.specs.declared.items.SrcModule.{SrcModule}
 use Rattle.surf_tree.specs.declared.items.SrcParam.{SrcParam}
-use Rattle.surf_parse.specs.declared.token.Named.{Named}
-use Rattle.surf_parse.specs.declared.reader.Reader.{Reader}
-use Rattle.surf_parse.specs.declared.error.ParseFault.{ParseFault}
-use Rattle.surf_parse.specs.declared.error.ParseFault.TheVariants as faults
-use Rattle.surf_parse.specs.View.{Fails, given_of, here, rest}
+use Rattle.surf_reader.specs.declared.token.Named.{Named}
+use Rattle.surf_reader.specs.declared.reader.Reader.{Reader}
+use Rattle.surf_reader.specs.declared.error.ParseFault.{ParseFault}
+use Rattle.surf_reader.specs.declared.error.ParseFault.TheVariants as faults
+use Rattle.surf_reader.specs.View.{Fails, given_of, here, rest}
 
 -- ---- repetitions
 
@@ -58,14 +58,14 @@ constructors_row = sign k.Colon ∷ sign k.Star ∷ sign k.Is ∷ Make m.NoConst
 abbrev pub datatype_row : List Want
 datatype_row = binding ∷ Make m.NoParameters ∷ Read (Parameters 16) ∷ constructors_row
 
-abbrev pub parameter_behind : List Want
-parameter_behind = binding ∷ sign k.Colon ∷ Read (Class outermost any None) ∷ sign k.Close ∷ Make m.AParameter ∷ []
+abbrev pub row_of_parameter : List Want
+row_of_parameter = binding ∷ sign k.Colon ∷ Read (Class outermost any None) ∷ sign k.Close ∷ Make m.AParameter ∷ []
 
-abbrev pub constructor_behind : List Want
-constructor_behind = binding ∷ sign k.Colon ∷ Read (Class outermost of_type (Some 32)) ∷ Test_ IsType ∷ Test_ HasFewArguments ∷ Make m.AConstructor ∷ []
+abbrev pub row_of_constructor : List Want
+row_of_constructor = binding ∷ sign k.Colon ∷ Read (Class outermost of_type (Some 32)) ∷ Test_ IsType ∷ Test_ HasFewArguments ∷ Make m.AConstructor ∷ []
 
-abbrev pub import_behind : List Want
-import_behind = binding ∷ Test_ IsImportable ∷ sign k.Period ∷ Make m.AnImport ∷ []
+abbrev pub row_of_import : List Want
+row_of_import = binding ∷ Test_ IsImportable ∷ sign k.Period ∷ Make m.AnImport ∷ []
 
 -- ---- values
 

@@ -7,15 +7,14 @@ ghost use Rattle.source_model.specs.Parsing.{one};
 ghost use Rattle.source_model.specs.Made.{a_parameter};
 ghost use Rattle.surf_tree.specs.Forms.{class_tree};
 ghost use Rattle.surf_tree.specs.Items.{parameter_of};
-ghost use Rattle.surf_parse.specs.View.{Goes, Tested, Told, given_of, here, token_of};
-ghost use Rattle.surf_parse.specs.Outer.{ConstructorTree, ParameterTree, Repeats, constructor_behind, constructor_on, constructors_of, parameter_behind, parameter_on, parameters_of};
+ghost use Rattle.surf_reader.specs.View.{Goes, Tested, Told, given_of, here, token_of};
+ghost use Rattle.surf_parse.specs.Outer.{ConstructorTree, ParameterTree, Repeats, row_of_constructor, constructor_on, constructors_of, row_of_parameter, parameter_on, parameters_of};
 
-use crate::error::ParseFault;
 use crate::item::OUTERMOST;
-use crate::reader::Reader;
-use crate::token::Named;
 use cdle_model::Count;
 use source_model::{TokenKind, Wanted};
+use surf_part::class;
+use surf_reader::{Named, ParseFault, Reader};
 use surf_tree::{SrcClass, SrcCtor, SrcParam, SrcType, SrcTypeForm};
 
 /// The most parameters of a datatype.
@@ -63,114 +62,126 @@ fn a_parameter(name: Named, class: SrcClass) -> SrcParam
     }
 }
 
-impl<'a> Reader<'a> {
-    /// That a constructor of that type has not too many arguments.
-    fn few_arguments(&self, first: u32, ty: &SrcType) -> Result<(), ParseFault>
-        ensures { (at : ℕ) → Tested self.now (λ u vs. m.part first ty.now ∷ vs) result HasFewArguments (λ vs. m.part first ty.now ∷ vs) at }
-    {
-        if has_at_most(ty, MOST_ARGUMENTS) {
-            Ok(())
-        } else {
-            Err(ParseFault::TooMany {
-                at: first,
-                what: Count::Arguments,
-            })
-        }
+/// That a constructor of that type has not too many arguments.
+fn few_arguments(reader: &Reader<'_>, first: u32, ty: &SrcType) -> Result<(), ParseFault>
+    ensures { (at : ℕ) → Tested reader.now (λ u vs. m.part first ty.now ∷ vs) result HasFewArguments (λ vs. m.part first ty.now ∷ vs) at }
+{
+    if has_at_most(ty, MOST_ARGUMENTS) {
+        Ok(())
+    } else {
+        Err(ParseFault::TooMany {
+            at: first,
+            what: Count::Arguments,
+        })
     }
+}
 
-    /// A parameter, behind its parenthesis.
-    fn parameter_behind(&self, at: usize) -> Result<(SrcParam, usize), ParseFault>
-        ensures { (d : Token ℕ) (ps : List ParameterTree) → Goes self.now (λ p vs. parameter_on ps vs p) result parameter_behind (λ vs. m.token d ∷ m.parameters ps ∷ vs) at }
-    {
-        let (name, at) = self.binding(at)?;
-        let (_, at) = self.sign(TokenKind::Colon, at)?;
-        let ((_, class), at) = self.class(OUTERMOST, None, Wanted::Class, at)?;
-        let (_, at) = self.sign(TokenKind::Close, at)?;
-        Ok((a_parameter(name, class), at))
-    }
+/// A parameter, behind its parenthesis.
+fn parameter_behind(reader: &Reader<'_>, at: usize) -> Result<(SrcParam, usize), ParseFault>
+    ensures { (d : Token ℕ) (ps : List ParameterTree) → Goes reader.now (λ p vs. parameter_on ps vs p) result row_of_parameter (λ vs. m.token d ∷ m.parameters ps ∷ vs) at }
+{
+    let (name, at) = reader.binding(at)?;
+    let (_, at) = reader.sign(TokenKind::Colon, at)?;
+    let ((_, class), at) = class(reader, OUTERMOST, None, Wanted::Class, at)?;
+    let (_, at) = reader.sign(TokenKind::Close, at)?;
+    Ok((a_parameter(name, class), at))
+}
 
-    /// The parameter that is next, if one is, where so many may still come.
-    fn parameter(&self, room: u32, at: usize) -> Result<Option<(SrcParam, usize)>, ParseFault>
-        ensures repeats { (ps : List ParameterTree) (vs : List (Value ℕ)) → Repeats self.now (Parameters room) (Parameters (pred room)) (m.parameters ps ∷ vs) (parameter_on ps vs) at result }
-        ensures within { (x : _) → result ≡ Ok (Some x) → 0 < room }
-    {
-        match self.taken(TokenKind::Open, at) {
-            None => Ok(None),
-            Some(token) => {
-                if room == 0 {
-                    return Err(ParseFault::TooMany {
-                        at: token.span.from,
-                        what: Count::Parameters,
-                    });
-                }
-                Ok(Some(self.parameter_behind(at + 1)?))
+/// The parameter that is next, if one is, where so many may still come.
+fn parameter(
+    reader: &Reader<'_>,
+    room: u32,
+    at: usize,
+) -> Result<Option<(SrcParam, usize)>, ParseFault>
+    ensures repeats { (ps : List ParameterTree) (vs : List (Value ℕ)) → Repeats reader.now (Parameters room) (Parameters (pred room)) (m.parameters ps ∷ vs) (parameter_on ps vs) at result }
+    ensures within { (x : _) → result ≡ Ok (Some x) → 0 < room }
+{
+    match reader.taken(TokenKind::Open, at) {
+        None => Ok(None),
+        Some(token) => {
+            if room == 0 {
+                return Err(ParseFault::TooMany {
+                    at: token.span.from,
+                    what: Count::Parameters,
+                });
             }
+            Ok(Some(parameter_behind(reader, at + 1)?))
         }
     }
+}
 
-    /// All the parameters of a datatype.
-    pub(crate) fn parameters(&self, at: usize) -> Result<(Vec<SrcParam>, usize), ParseFault>
-        ensures { Told self.now parameters_of result (λ vs. one (given_of self.now) (Read (Parameters 16)) (here self.now at (m.parameters [] ∷ vs))) }
-    {
-        let mut list = Vec::new(self.alloc);
-        let mut room = MOST_PARAMETERS;
-        let mut to = at;
-        'parameters: while let Some((parameter, next)) = self.parameter(room, to)? {
-            list.push(parameter)?;
-            room -= 1;
-            to = next;
-        }
-        Ok((list, to))
+/// All the parameters of a datatype.
+pub(crate) fn parameters(
+    reader: &Reader<'_>,
+    at: usize,
+) -> Result<(Vec<SrcParam>, usize), ParseFault>
+    ensures { Told reader.now parameters_of result (λ vs. one (given_of reader.now) (Read (Parameters 16)) (here reader.now at (m.parameters [] ∷ vs))) }
+{
+    let mut list = Vec::new(reader.alloc);
+    let mut room = MOST_PARAMETERS;
+    let mut to = at;
+    'parameters: while let Some((parameter, next)) = parameter(reader, room, to)? {
+        list.push(parameter)?;
+        room -= 1;
+        to = next;
     }
+    Ok((list, to))
+}
 
-    /// A constructor, behind its `|`.
-    fn constructor_behind(&self, at: usize) -> Result<(SrcCtor, usize), ParseFault>
-        ensures { (d : Token ℕ) (cs : List ConstructorTree) → Goes self.now (λ c vs. constructor_on cs vs c) result constructor_behind (λ vs. m.token d ∷ m.constructors cs ∷ vs) at }
-    {
-        let (name, at) = self.binding(at)?;
-        let (_, at) = self.sign(TokenKind::Colon, at)?;
-        let ((first, class), at) = self.class(OUTERMOST, Some(MOST_ARGUMENTS), Wanted::Ty, at)?;
-        let ty = self.as_type(first, class)?;
-        self.few_arguments(first, &ty)?;
-        let constructor = SrcCtor {
-            name: name.name,
-            span: name.span,
-            ty,
-        };
-        Ok((constructor, at))
-    }
+/// A constructor, behind its `|`.
+fn constructor_behind(reader: &Reader<'_>, at: usize) -> Result<(SrcCtor, usize), ParseFault>
+    ensures { (d : Token ℕ) (cs : List ConstructorTree) → Goes reader.now (λ c vs. constructor_on cs vs c) result row_of_constructor (λ vs. m.token d ∷ m.constructors cs ∷ vs) at }
+{
+    let (name, at) = reader.binding(at)?;
+    let (_, at) = reader.sign(TokenKind::Colon, at)?;
+    let ((first, class), at) = class(reader, OUTERMOST, Some(MOST_ARGUMENTS), Wanted::Ty, at)?;
+    let ty = reader.as_type(first, class)?;
+    few_arguments(reader, first, &ty)?;
+    let constructor = SrcCtor {
+        name: name.name,
+        span: name.span,
+        ty,
+    };
+    Ok((constructor, at))
+}
 
-    /// The constructor that is next, if one is, where so many may still come.
-    fn constructor(&self, room: u32, at: usize) -> Result<Option<(SrcCtor, usize)>, ParseFault>
-        ensures repeats { (cs : List ConstructorTree) (vs : List (Value ℕ)) → Repeats self.now (Constructors room) (Constructors (pred room)) (m.constructors cs ∷ vs) (constructor_on cs vs) at result }
-        ensures within { (x : _) → result ≡ Ok (Some x) → 0 < room }
-    {
-        match self.taken(TokenKind::Bar, at) {
-            None => Ok(None),
-            Some(token) => {
-                if room == 0 {
-                    return Err(ParseFault::TooMany {
-                        at: token.span.from,
-                        what: Count::Constructors,
-                    });
-                }
-                Ok(Some(self.constructor_behind(at + 1)?))
+/// The constructor that is next, if one is, where so many may still come.
+fn constructor(
+    reader: &Reader<'_>,
+    room: u32,
+    at: usize,
+) -> Result<Option<(SrcCtor, usize)>, ParseFault>
+    ensures repeats { (cs : List ConstructorTree) (vs : List (Value ℕ)) → Repeats reader.now (Constructors room) (Constructors (pred room)) (m.constructors cs ∷ vs) (constructor_on cs vs) at result }
+    ensures within { (x : _) → result ≡ Ok (Some x) → 0 < room }
+{
+    match reader.taken(TokenKind::Bar, at) {
+        None => Ok(None),
+        Some(token) => {
+            if room == 0 {
+                return Err(ParseFault::TooMany {
+                    at: token.span.from,
+                    what: Count::Constructors,
+                });
             }
+            Ok(Some(constructor_behind(reader, at + 1)?))
         }
     }
+}
 
-    /// All the constructors of a datatype.
-    pub(crate) fn constructors(&self, at: usize) -> Result<(Vec<SrcCtor>, usize), ParseFault>
-        ensures { Told self.now constructors_of result (λ vs. one (given_of self.now) (Read (Constructors 64)) (here self.now at (m.constructors [] ∷ vs))) }
-    {
-        let mut list = Vec::new(self.alloc);
-        let mut room = MOST_CONSTRUCTORS;
-        let mut to = at;
-        'constructors: while let Some((constructor, next)) = self.constructor(room, to)? {
-            list.push(constructor)?;
-            room -= 1;
-            to = next;
-        }
-        Ok((list, to))
+/// All the constructors of a datatype.
+pub(crate) fn constructors(
+    reader: &Reader<'_>,
+    at: usize,
+) -> Result<(Vec<SrcCtor>, usize), ParseFault>
+    ensures { Told reader.now constructors_of result (λ vs. one (given_of reader.now) (Read (Constructors 64)) (here reader.now at (m.constructors [] ∷ vs))) }
+{
+    let mut list = Vec::new(reader.alloc);
+    let mut room = MOST_CONSTRUCTORS;
+    let mut to = at;
+    'constructors: while let Some((constructor, next)) = constructor(reader, room, to)? {
+        list.push(constructor)?;
+        room -= 1;
+        to = next;
     }
+    Ok((list, to))
 }

@@ -1,18 +1,18 @@
 //! Reading items: definitions and datatypes.
-ghost use Rattle.std.specs.Prelude.{◌≡◌, ◌∷◌, [], ℕ, List, false, map, true, Ok, Some};
+ghost use Rattle.std.specs.Prelude.{◌≡◌, ◌∷◌, ℕ, List, false, map, true, Ok, Some};
 ghost use Rattle.source_model.specs.Source.{Module};
 ghost use Rattle.source_model.specs.Grammar.{Items, Token, Value};
 ghost use Rattle.source_model.specs.Grammar as m;
 ghost use Rattle.surf_tree.specs.Items.{item_of, parameter_of};
 ghost use Rattle.source_model.specs.Heights.{is_kind};
 ghost use Rattle.source_model.specs.Made.{defined};
-ghost use Rattle.surf_parse.specs.View.{Goes, on_token, token_of};
+ghost use Rattle.surf_reader.specs.View.{Goes, on_token, token_of};
 ghost use Rattle.surf_parse.specs.Outer.{Advances, Repeats, constructors_row, datatype_row, definition_row, item_on, term_rows, type_rows};
 
-use crate::error::ParseFault;
-use crate::reader::Reader;
-use crate::token::Named;
+use crate::data::{constructors, parameters};
 use source_model::{TokenKind, Wanted};
+use surf_part::{class, term};
+use surf_reader::{Named, ParseFault, Reader};
 use surf_tree::{Src, SrcClass, SrcItem, SrcKind, SrcParam, SrcType};
 
 /// With the outermost term or class itself, which nests nothing, this is one more than nesting may rise.
@@ -46,101 +46,99 @@ fn type_defined(name: Named, kind: SrcKind, body: SrcType) -> SrcItem
     }
 }
 
-impl<'a> Reader<'a> {
-    /// A definition of a term, behind its `=`.
-    fn term_definition(
-        &self,
-        name: Named,
-        ty: SrcType,
-        at: usize,
-    ) -> Result<(SrcItem, usize), ParseFault>
-        ensures { (b : Module ℕ) (d e : Token ℕ) (f : ℕ) → Goes self.now (λ i vs. item_on b vs i) result term_rows (λ vs. m.token e ∷ m.part f ty ∷ m.token d ∷ on_token name (m.module_so_far b ∷ vs)) at }
-    {
-        let ((_, body), at) = self.term(OUTERMOST, at)?;
-        body.levels();
-        let (_, at) = self.sign(TokenKind::Period, at)?;
-        Ok((defined(name, ty, body), at))
-    }
+/// A definition of a term, behind its `=`.
+fn term_definition(
+    reader: &Reader<'_>,
+    name: Named,
+    ty: SrcType,
+    at: usize,
+) -> Result<(SrcItem, usize), ParseFault>
+    ensures { (b : Module ℕ) (d e : Token ℕ) (f : ℕ) → Goes reader.now (λ i vs. item_on b vs i) result term_rows (λ vs. m.token e ∷ m.part f ty ∷ m.token d ∷ on_token name (m.module_so_far b ∷ vs)) at }
+{
+    let ((_, body), at) = term(reader, OUTERMOST, at)?;
+    body.levels();
+    let (_, at) = reader.sign(TokenKind::Period, at)?;
+    Ok((defined(name, ty, body), at))
+}
 
-    /// A definition of a type, behind its `=`.
-    fn type_definition(
-        &self,
-        name: Named,
-        kind: SrcKind,
-        at: usize,
-    ) -> Result<(SrcItem, usize), ParseFault>
-        ensures { (b : Module ℕ) (d e : Token ℕ) (f : ℕ) → Goes self.now (λ i vs. item_on b vs i) result type_rows (λ vs. m.token e ∷ m.part f kind ∷ m.token d ∷ on_token name (m.module_so_far b ∷ vs)) at }
-    {
-        let ((first, class), at) = self.class(OUTERMOST, None, Wanted::Ty, at)?;
-        let body = self.as_type(first, class)?;
-        let (_, at) = self.sign(TokenKind::Period, at)?;
-        Ok((type_defined(name, kind, body), at))
-    }
+/// A definition of a type, behind its `=`.
+fn type_definition(
+    reader: &Reader<'_>,
+    name: Named,
+    kind: SrcKind,
+    at: usize,
+) -> Result<(SrcItem, usize), ParseFault>
+    ensures { (b : Module ℕ) (d e : Token ℕ) (f : ℕ) → Goes reader.now (λ i vs. item_on b vs i) result type_rows (λ vs. m.token e ∷ m.part f kind ∷ m.token d ∷ on_token name (m.module_so_far b ∷ vs)) at }
+{
+    let ((first, class), at) = class(reader, OUTERMOST, None, Wanted::Ty, at)?;
+    let body = reader.as_type(first, class)?;
+    let (_, at) = reader.sign(TokenKind::Period, at)?;
+    Ok((type_defined(name, kind, body), at))
+}
 
-    /// A definition, behind its name.
-    fn definition(&self, name: Named, at: usize) -> Result<(SrcItem, usize), ParseFault>
-        ensures { (b : Module ℕ) → Goes self.now (λ i vs. item_on b vs i) result definition_row (λ vs. on_token name (m.module_so_far b ∷ vs)) at }
-    {
-        let (_, at) = self.sign(TokenKind::Colon, at)?;
-        let ((_, class), at) = self.class(OUTERMOST, None, Wanted::Class, at)?;
-        let (_, at) = self.sign(TokenKind::Is, at)?;
-        match class {
-            SrcClass::OfType(ty) => {
-                ty.levels();
-                self.term_definition(name, ty, at)
-            }
-            SrcClass::OfKind(kind) => {
-                kind.levels();
-                self.type_definition(name, kind, at)
-            }
+/// A definition, behind its name.
+fn definition(reader: &Reader<'_>, name: Named, at: usize) -> Result<(SrcItem, usize), ParseFault>
+    ensures { (b : Module ℕ) → Goes reader.now (λ i vs. item_on b vs i) result definition_row (λ vs. on_token name (m.module_so_far b ∷ vs)) at }
+{
+    let (_, at) = reader.sign(TokenKind::Colon, at)?;
+    let ((_, class), at) = class(reader, OUTERMOST, None, Wanted::Class, at)?;
+    let (_, at) = reader.sign(TokenKind::Is, at)?;
+    match class {
+        SrcClass::OfType(ty) => {
+            ty.levels();
+            term_definition(reader, name, ty, at)
+        }
+        SrcClass::OfKind(kind) => {
+            kind.levels();
+            type_definition(reader, name, kind, at)
         }
     }
+}
 
-    /// The constructors of a datatype, behind its parameters.
-    fn datatype_behind(
-        &self,
-        name: Named,
-        params: Vec<SrcParam>,
-        at: usize,
-    ) -> Result<(SrcItem, usize), ParseFault>
-        ensures { (b : Module ℕ) (d : Token ℕ) → Goes self.now (λ i vs. item_on b vs i) result constructors_row
-            (λ vs. m.parameters (map parameter_of params.items) ∷ on_token name (m.token d ∷ m.module_so_far b ∷ vs)) at }
-    {
-        let (_, at) = self.sign(TokenKind::Colon, at)?;
-        let (_, at) = self.sign(TokenKind::Star, at)?;
-        let (_, at) = self.sign(TokenKind::Is, at)?;
-        let (ctors, at) = self.constructors(at)?;
-        let (_, at) = self.sign(TokenKind::Period, at)?;
-        let item = SrcItem::Data {
-            name: name.name,
-            span: name.span,
-            params,
-            ctors,
-        };
-        Ok((item, at))
-    }
+/// The constructors of a datatype, behind its parameters.
+fn datatype_behind(
+    reader: &Reader<'_>,
+    name: Named,
+    params: Vec<SrcParam>,
+    at: usize,
+) -> Result<(SrcItem, usize), ParseFault>
+    ensures { (b : Module ℕ) (d : Token ℕ) → Goes reader.now (λ i vs. item_on b vs i) result constructors_row
+        (λ vs. m.parameters (map parameter_of params.items) ∷ on_token name (m.token d ∷ m.module_so_far b ∷ vs)) at }
+{
+    let (_, at) = reader.sign(TokenKind::Colon, at)?;
+    let (_, at) = reader.sign(TokenKind::Star, at)?;
+    let (_, at) = reader.sign(TokenKind::Is, at)?;
+    let (ctors, at) = constructors(reader, at)?;
+    let (_, at) = reader.sign(TokenKind::Period, at)?;
+    let item = SrcItem::Data {
+        name: name.name,
+        span: name.span,
+        params,
+        ctors,
+    };
+    Ok((item, at))
+}
 
-    /// A datatype, behind its word.
-    fn datatype(&self, word: Named, at: usize) -> Result<(SrcItem, usize), ParseFault>
-        ensures { (b : Module ℕ) → Goes self.now (λ i vs. item_on b vs i) result datatype_row (λ vs. on_token word (m.module_so_far b ∷ vs)) at }
-    {
-        let (name, at) = self.binding(at)?;
-        let (params, at) = self.parameters(at)?;
-        self.datatype_behind(name, params, at)
-    }
+/// A datatype, behind its word.
+fn datatype(reader: &Reader<'_>, word: Named, at: usize) -> Result<(SrcItem, usize), ParseFault>
+    ensures { (b : Module ℕ) → Goes reader.now (λ i vs. item_on b vs i) result datatype_row (λ vs. on_token word (m.module_so_far b ∷ vs)) at }
+{
+    let (name, at) = reader.binding(at)?;
+    let (params, at) = parameters(reader, at)?;
+    datatype_behind(reader, name, params, at)
+}
 
-    /// The item that is next, if one is.
-    pub(crate) fn item(&self, at: usize) -> Result<Option<(SrcItem, usize)>, ParseFault>
-        ensures repeats { (b : Module ℕ) (vs : List (Value ℕ)) → Repeats self.now Items Items (m.module_so_far b ∷ vs) (item_on b vs) at result }
-        ensures ahead { (x : _) → result ≡ Ok (Some x) → Advances self.now at x.1 }
-    {
-        match self.peek(at) {
-            None => Ok(None),
-            Some(token) => match token.kind {
-                TokenKind::Name => Ok(Some(self.definition(token, at + 1)?)),
-                TokenKind::Data => Ok(Some(self.datatype(token, at + 1)?)),
-                _ => Ok(None),
-            },
-        }
+/// The item that is next, if one is.
+pub(crate) fn item(reader: &Reader<'_>, at: usize) -> Result<Option<(SrcItem, usize)>, ParseFault>
+    ensures repeats { (b : Module ℕ) (vs : List (Value ℕ)) → Repeats reader.now Items Items (m.module_so_far b ∷ vs) (item_on b vs) at result }
+    ensures ahead { (x : _) → result ≡ Ok (Some x) → Advances reader.now at x.1 }
+{
+    match reader.peek(at) {
+        None => Ok(None),
+        Some(token) => match token.kind {
+            TokenKind::Name => Ok(Some(definition(reader, token, at + 1)?)),
+            TokenKind::Data => Ok(Some(datatype(reader, token, at + 1)?)),
+            _ => Ok(None),
+        },
     }
 }

@@ -5,24 +5,11 @@
 //! of `source_model` says. The crate stands on it, on `surf_lex` for tokens, on `surf_tree` for what is made, and on `cdle_names`.
 #![tactic(auto)]
 
-mod atom;
-mod binder;
-mod cases;
-mod class;
-mod class_ends;
 mod data;
-mod error;
 mod item;
-mod kinds;
 mod module;
-mod names;
 mod numbers;
 mod parser;
-mod reader;
-mod spans;
-mod term;
-mod token;
 
-pub use cdle_names::NoMemory;
-pub use error::ParseFault;
 pub use parser::parse;
+pub use surf_reader::{NoMemory, ParseFault};

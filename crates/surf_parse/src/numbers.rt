@@ -1,17 +1,16 @@
 //! The numbers of the names of a text.
-ghost use Rattle.std.specs.Prelude.{◌≡◌, ◌≤◌, ◌+◌, ◌<◌, length, map, IfOk, Ok, OnOk};
-ghost use Rattle.std.specs.Str.{IsCharBoundary};
+ghost use Rattle.std.specs.Prelude.{◌≡◌, ◌≤◌, ◌+◌, ◌<◌, length, map, IfOk, Ok};
 ghost use Rattle.source_model.specs.SurfaceTokens.{lexed};
-ghost use Rattle.surf_parse.specs.View.{token_of};
-ghost use Rattle.surf_parse.specs.Answers.{AreNumbered, Grows, numbered, text_token};
+ghost use Rattle.surf_reader.specs.View.{token_of};
+ghost use Rattle.surf_lex.specs.Fronts.{token_of as text_token};
+ghost use Rattle.surf_parse.specs.Answers.{AreNumbered, Grows, numbered};
 ghost use Rattle.surf_parse.specs.Numbers.{IsNumber, IsPlaced};
 
-use crate::kinds::is_same;
-use crate::token::Named;
 use cdle_names::{NameId, NameTable, NoMemory};
 use source_model::TokenKind;
 use std::alloc::Global;
 use surf_lex::Token;
+use surf_reader::{Named, is_same};
 
 /// The number of a token's text where it is a name.
 fn number_of(

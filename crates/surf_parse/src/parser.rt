@@ -1,15 +1,16 @@
 //! The parser: from the tokens of a text to its module.
 ghost use Rattle.std.specs.Prelude.{◌≡◌, ◌+◌, ◌<◌, length, map, Err, Ok};
 ghost use Rattle.source_model.specs.SurfaceTokens.{lexed};
-ghost use Rattle.surf_parse.specs.Answers.{AreNumbered, Grows, IsParsed, given_by, numbered, text_token};
-ghost use Rattle.surf_parse.specs.declared.error.ParseFault.TheVariants as faults;
+ghost use Rattle.surf_lex.specs.Fronts.{token_of as text_token};
+ghost use Rattle.surf_parse.specs.Answers.{AreNumbered, Grows, IsParsed, given_by, numbered};
+ghost use Rattle.surf_reader.specs.declared.error.ParseFault.TheVariants as faults;
 
-use crate::error::ParseFault;
+use crate::module::read_module;
 use crate::numbers::number;
-use crate::reader::Reader;
 use cdle_names::NameTable;
 use std::alloc::Global;
 use surf_lex::Token;
+use surf_reader::{ParseFault, Reader};
 use surf_tree::SrcModule;
 
 /// The module that the tokens of a text are, or their first fault. Its name is to be `module`.
@@ -39,5 +40,5 @@ pub fn parse(
         module: module.as_bytes(),
         end,
     };
-    reader.module()
+    read_module(&reader)
 }

@@ -1,8 +1,8 @@
 use Rattle.std.proofs.Common.{◌≡◌, ◌∙◌, ℕ, ◌+◌, ◌<◌, List, [], ◌∷◌, ◌++◌, length, map, take, refl, sym, ap, subst, arith}
 use Rattle.std.proofs.lemmas.List.{take_more}
 use Rattle.surf_lex.specs.declared.tokens.Token as lexer
-use Rattle.surf_parse.specs.declared.token.Named.{Named}
-use Rattle.surf_parse.specs.View.{token_of}
+use Rattle.surf_reader.specs.declared.token.Named.{Named}
+use Rattle.surf_reader.specs.View.{token_of}
 use Rattle.surf_parse.specs.Answers.{AreNumbered, numbered}
 use Rattle.surf_parse.specs.Numbers.{IsPlaced}
 use Rattle.surf_parse.proofs.Numbered.{grows_on, one_more, placed}

@@ -1,5 +1,5 @@
-use Rattle.std.proofs.Common.{◌≡◌, ◌≤◌, ◌+◌, ◌-◌, ℕ, length, map, take}
-use Rattle.surf_parse.specs.View.{token_of}
+use Rattle.std.proofs.Common.{◌≡◌, ◌≤◌, ◌+◌, ◌-◌, length, map, take}
+use Rattle.surf_reader.specs.View.{token_of}
 use Rattle.surf_parse.specs.Answers.{AreNumbered, Grows, numbered}
 use Rattle.surf_parse.proofs.numbers.number.Given as goal
 

@@ -1,0 +1,7 @@
+use Rattle.elab_print_rows.proofs.same.+guide.Given as goal
+
+abbrev pub decreases-same_guide : goal.decreases-same_guide
+decreases-same_guide l = l.levels
+
+abbrev pub decreases-same_guide_kind : goal.decreases-same_guide_kind
+decreases-same_guide_kind l = l.levels

@@ -1,0 +1,81 @@
+//! Terms and pure terms, from parts that may have failed.
+
+use crate::Made;
+use elab_tree::{EGuide, EKind, EPure, ETerm, EType};
+use std::alloc::Global;
+
+pub(crate) fn lam(alloc: Global, ty: Made<EType>, part: Made<ETerm>) -> Made<ETerm> {
+    ETerm::lam(alloc, &ty?, &part?)
+}
+
+pub(crate) fn elam(alloc: Global, ty: Made<EType>, part: Made<ETerm>) -> Made<ETerm> {
+    ETerm::elam(alloc, &ty?, &part?)
+}
+
+pub(crate) fn xlam(alloc: Global, kind: Made<EKind>, part: Made<ETerm>) -> Made<ETerm> {
+    ETerm::xlam(alloc, &kind?, &part?)
+}
+
+pub(crate) fn app(alloc: Global, head: Made<ETerm>, arg: Made<ETerm>) -> Made<ETerm> {
+    ETerm::app(alloc, &head?, &arg?)
+}
+
+pub(crate) fn eapp(alloc: Global, head: Made<ETerm>, arg: Made<ETerm>) -> Made<ETerm> {
+    ETerm::eapp(alloc, &head?, &arg?)
+}
+
+pub(crate) fn tapp(alloc: Global, head: Made<ETerm>, arg: Made<EType>) -> Made<ETerm> {
+    ETerm::tapp(alloc, &head?, &arg?)
+}
+
+pub(crate) fn pair(
+    alloc: Global,
+    left: Made<ETerm>,
+    right: Made<ETerm>,
+    ty: Made<EType>,
+) -> Made<ETerm> {
+    ETerm::pair(alloc, &left?, &right?, &ty?)
+}
+
+pub(crate) fn fst(alloc: Global, part: Made<ETerm>) -> Made<ETerm> {
+    ETerm::fst(alloc, &part?)
+}
+
+pub(crate) fn snd(alloc: Global, part: Made<ETerm>) -> Made<ETerm> {
+    ETerm::snd(alloc, &part?)
+}
+
+pub(crate) fn beta(alloc: Global, side: Made<EPure>, kept: Made<EPure>) -> Made<ETerm> {
+    ETerm::beta(alloc, &side?, &kept?)
+}
+
+pub(crate) fn rho(
+    alloc: Global,
+    proof: Made<ETerm>,
+    guide: Made<EGuide>,
+    ty: Made<EType>,
+    part: Made<ETerm>,
+) -> Made<ETerm> {
+    ETerm::rho(alloc, &proof?, &guide?, &ty?, &part?)
+}
+
+pub(crate) fn phi(
+    alloc: Global,
+    proof: Made<ETerm>,
+    part: Made<ETerm>,
+    kept: Made<EPure>,
+) -> Made<ETerm> {
+    ETerm::phi(alloc, &proof?, &part?, &kept?)
+}
+
+pub(crate) fn delta(alloc: Global, ty: Made<EType>, proof: Made<ETerm>) -> Made<ETerm> {
+    ETerm::delta(alloc, &ty?, &proof?)
+}
+
+pub(crate) fn function(alloc: Global, part: Made<EPure>) -> Made<EPure> {
+    EPure::function(alloc, &part?)
+}
+
+pub(crate) fn ap(alloc: Global, head: Made<EPure>, arg: Made<EPure>) -> Made<EPure> {
+    EPure::ap(alloc, &head?, &arg?)
+}

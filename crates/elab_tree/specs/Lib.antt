@@ -1,0 +1,12 @@
+pub mod Forms
+pub mod Sizes
+pub mod Solved
+pub mod Changes
+pub mod Answers
+pub mod Items
+pub mod Known
+pub mod KnownCode
+pub mod Entries
+pub mod PureFalls
+pub mod GuideFalls
+pub mod TermFalls

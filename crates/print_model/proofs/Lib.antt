@@ -1,0 +1,11 @@
+pub mod FormsTaken
+pub mod FormText
+pub mod Words
+pub mod Spellings
+pub mod PartsRead
+pub mod TextUtf8
+pub mod FilesRead
+pub mod TextThere
+pub mod FirstDeep
+pub mod DottedNames
+pub mod Examples

@@ -1,6 +1,0 @@
-use Rattle.std.proofs.Common.{sym}
-use Rattle.surf_parse.specs.View.{other}
-use Rattle.surf_parse.proofs.reader.Reader.taken.Goals as goal
-
-pub returns-else-is_same-clause-none : goal.returns-else-is_same-clause-none
-returns-else-is_same-clause-none c = λ _. other c.in-Some.token c.in-Some.ensures.next (sym c.if-is_same.ensures)

@@ -1,7 +1,0 @@
-use Rattle.std.proofs.Common.{ap}
-use Rattle.surf_parse.specs.View.{begins_row}
-use Rattle.surf_parse.proofs.Rules.{class_atom_none}
-use Rattle.surf_parse.proofs.term.begins_class_atom.Goals as goal
-
-pub returns-in_default : goal.returns-in_default
-returns-in_default c = λ n. ap begins_row (class_atom_none n c.args.kind c.in_default.not-Star c.in_default.not-Name c.in_default.not-Open c.in_default.not-OpenBrace)

@@ -1,8 +1,0 @@
-//! The signs of classes that bind a name.
-/// `Π`, `∀`, or the `λ` of types.
-#[derive(Clone, Copy, Debug, PartialEq, Eq)]
-pub(crate) enum Binder {
-    Product,
-    Forall,
-    Lambda,
-}

@@ -1,0 +1,10 @@
+use Rattle.std.proofs.Common.{refl}
+use Rattle.source_model.specs.Grammar as m
+use Rattle.source_model.specs.Made.{made}
+use Rattle.source_model.proofs.Turns.{one_make}
+use Rattle.surf_reader.specs.View.{given_of}
+use Rattle.surf_reader.proofs.reader.Reader.marked.Goals as goal
+
+pub returns : goal.returns
+unfolding made
+returns c = λ d ps vs. rw (c.in_ok-name.ensures, one_make (given_of c.args.self.now) (m.APattern c.args.mode), c.named.ensures) refl
