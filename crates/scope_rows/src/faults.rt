@@ -25,7 +25,7 @@ const UNBOUND: &[&str] = &[
     "a : Top = ¦a¦ .",
     "A : ★ = ¦A¦ .",
     "a : ¦A¦ = top . A : ★ = Top .",
-    "a : Top = λ x . f ¦x'¦ .",
+    "a : Top = λ x . x ¦x'¦ .",
     "a : Top = (λ x . x) ¦x¦ .",
     "a : Top = ¦zero¦ .",
     "import nat. a : Nat = ¦one¦ .",
