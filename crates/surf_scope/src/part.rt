@@ -5,7 +5,7 @@ ghost use Rattle.source_model.specs.Source.{bind, cases, leaf, one, two, use_of}
 ghost use Rattle.scope_model.specs.Scope.{of_case, scoped};
 ghost use Rattle.scoped_tree.specs.Trees.{argument, bind_form, case_form, chain as scoped_chain, leaf_form, one_form, two_form};
 ghost use Rattle.surf_tree.specs.Forms.{chain, class_tree, name_use, number_or_none, place};
-ghost use Rattle.surf_scope.specs.Around.{around_of};
+ghost use Rattle.surf_scope.specs.Around.{IsReady, around_of};
 ghost use Rattle.surf_scope.specs.Layers.{bounds};
 ghost use Rattle.surf_scope.specs.Names.{text_or_none};
 ghost use Rattle.surf_scope.specs.Results.{Gives};
