@@ -30,21 +30,36 @@ fn generated(alloc: Global, datatype: &str, ending: &str, sort: Sort) -> Result<
     Ok(ItemName { text, sort })
 }
 
+/// Puts a generated name behind those so far.
+fn put_generated(
+    alloc: Global,
+    given: &mut ItemIndex,
+    datatype: &str,
+    ending: &str,
+    sort: Sort,
+) -> Result<(), NoMemory>
+    ensures { OnOk result (names_of given.new ≡ names_of given.old ++ of_sort sort (datatype.now ++ ending.now) ∷ []) }
+{
+    let name = generated(alloc, datatype, ending, sort)?;
+    given.push(alloc, name)
+}
+
+/// Puts a name behind those so far.
+fn put_name(alloc: Global, given: &mut ItemIndex, name: &str, sort: Sort) -> Result<(), NoMemory>
+    ensures { OnOk result (names_of given.new ≡ names_of given.old ++ of_sort sort name.now ∷ []) }
+{
+    let text = Text::new(alloc, name)?;
+    given.push(alloc, ItemName { text, sort })
+}
+
 /// The names before the constructors.
 fn front_of(alloc: Global, datatype: &str) -> Result<ItemIndex, NoMemory>
     ensures { IfOk result (λ index. names_of index ≡ front datatype.now) }
 {
     let mut given = ItemIndex::new(alloc);
-    given.push(alloc, generated(alloc, datatype, "/F", Sort::OfType)?)?;
-    given.push(alloc, generated(alloc, datatype, "/mono", Sort::OfTerm)?)?;
-    let text = Text::new(alloc, datatype)?;
-    given.push(
-        alloc,
-        ItemName {
-            text,
-            sort: Sort::OfType,
-        },
-    )?;
+    put_generated(alloc, &mut given, datatype, "/F", Sort::OfType)?;
+    put_generated(alloc, &mut given, datatype, "/mono", Sort::OfTerm)?;
+    put_name(alloc, &mut given, datatype, Sort::OfType)?;
     Ok(given)
 }
 
@@ -97,14 +112,7 @@ impl DataNames {
         ensures given { OnOk result (given_names self.new ≡ given_names self.old ++ of_sort OfTerm constructor.now ∷ []) }
         ensures behind { names_behind self.new ≡ names_behind self.old }
     {
-        let text = Text::new(alloc, constructor)?;
-        self.given.push(
-            alloc,
-            ItemName {
-                text,
-                sort: Sort::OfTerm,
-            },
-        )
+        put_name(alloc, &mut self.given, constructor, Sort::OfTerm)
     }
 
     /// All names in order.
