@@ -1,16 +1,32 @@
-//! Items by their words: what the environment keeps of them.
-use crate::stacks::{Stacks, Stop};
+//! The items so far.
+use crate::Made;
+use crate::page::Page;
+use crate::terms::lam;
+use crate::types::tlam;
 use cdle_model::Text;
-use elab_tree::{Constructor, Datatype, ErasedBody, Mode, NoMemory, OutItem};
+use elab_tree::{Constructor, Datatype, EKind, ETerm, EType, Env, ErasedBody, Mode, OutItem};
 use std::alloc::Global;
-use std::io;
 
-/// A datatype of one parameter with one constructor, which has an argument of each mode.
-fn datatype(alloc: Global) -> Result<Datatype, NoMemory> {
+/// A definition under the type that is item 0.
+fn def(alloc: Global, name: &str, body: Made<ETerm>) -> Made<OutItem> {
+    let body = body?;
+    let ty = EType::name(alloc, 0)?;
+    let name = Text::new(alloc, name)?;
+    Ok(OutItem::Def { name, ty, body })
+}
+
+/// A definition of a type under the kind of types.
+fn type_def(alloc: Global, name: &str, body: Made<EType>) -> Made<OutItem> {
+    let body = body?;
+    let kind = EKind::star(alloc)?;
+    let name = Text::new(alloc, name)?;
+    Ok(OutItem::TypeDef { name, kind, body })
+}
+
+/// A datatype of one parameter with one constructor, which has an erased argument.
+fn datatype(alloc: Global) -> Made<Datatype> {
     let mut modes = Vec::new(alloc);
-    modes.push(Mode::OfType)?;
     modes.push(Mode::Erased)?;
-    modes.push(Mode::Kept)?;
     let mut constructors = Vec::new(alloc);
     constructors.push(Constructor { item: 1, modes })?;
     Ok(Datatype {
@@ -23,81 +39,63 @@ fn datatype(alloc: Global) -> Result<Datatype, NoMemory> {
     })
 }
 
-/// The last term under the last type as an item, or the last type under the last kind.
-fn item(alloc: Global, stacks: &mut Stacks, word: &str, number: u32) -> Result<OutItem, Stop> {
-    let text = if number == 0 { "zero" } else { "more" };
-    let name = Text::new(alloc, text)?;
-    if word == "def" {
-        let body = stacks.term()?;
-        let ty = stacks.ty()?;
-        return Ok(OutItem::Def { name, ty, body });
-    }
-    let body = stacks.ty()?;
-    let kind = stacks.kind()?;
-    Ok(OutItem::TypeDef { name, kind, body })
+/// Puts a copy of the item last.
+fn push(alloc: Global, env: &mut Env, item: Made<OutItem>, known: Option<Datatype>) -> Made<()> {
+    let item = item?.copy(alloc)?;
+    env.push(alloc, item, known)
 }
 
-/// `def`, `typedef` and `data` put an item; `erased` gives what is left of its body.
-pub(crate) fn item_word(
-    alloc: Global,
-    stacks: &mut Stacks,
-    word: &str,
-    number: u32,
-) -> Result<(), Stop> {
-    if word == "erased" {
-        return erased_body(stacks, number);
-    }
-    let item = item(alloc, stacks, word, number)?;
-    let copy = item.copy(alloc)?;
-    let known = if word == "data" {
-        Some(datatype(alloc)?)
-    } else {
-        None
-    };
-    stacks.items.push(alloc, copy, known)?;
-    Ok(())
+fn fill(alloc: Global, env: &mut Env) -> Made<()> {
+    let identity = lam(alloc, EType::name(alloc, 1), ETerm::var(alloc, 0));
+    push(alloc, env, def(alloc, "zero", identity), None)?;
+    let constant = tlam(alloc, EType::name(alloc, 1), EType::name(alloc, 2));
+    let known = datatype(alloc)?;
+    push(alloc, env, type_def(alloc, "one", constant), Some(known))
 }
 
-fn erased_body(stacks: &mut Stacks, number: u32) -> Result<(), Stop> {
-    if number >= stacks.items.len() {
-        return Err(Stop::NoRow);
-    }
-    match stacks.items.erased_body(number) {
-        ErasedBody::OfTerm(body) => stacks.pures.push(body.clone()?)?,
-        ErasedBody::OfType(body) => stacks.guides.push(body.clone()?)?,
-    }
-    Ok(())
-}
-
-/// The items, each by its name, with what is known of a datatype's.
-pub(crate) fn show_items(stacks: &Stacks, rt: &HostRuntime) -> io::Result<()> {
-    for number in 0..stacks.items.len() {
-        let name = stacks.items.get(number).name().as_str();
-        print!(rt; " {name}")?;
-        if let Some(datatype) = stacks.items.datatype(number) {
-            show_datatype(datatype, rt)?;
-        }
-    }
-    if stacks.items.has_failed() {
-        print!(rt; " failed")?;
-    }
-    Ok(())
-}
-
-fn show_datatype(datatype: &Datatype, rt: &HostRuntime) -> io::Result<()> {
-    let Datatype {
-        params,
-        mu,
-        sigma,
-        ..
-    } = datatype;
-    print!(rt; " params:{params} mu:{mu} sigma:{sigma}")?;
+fn show_datatype(page: &mut Page, datatype: &Datatype) {
+    page.number(" params ", datatype.params);
+    page.number(" mu ", datatype.mu);
+    page.number(" sigma ", datatype.sigma);
     for constructor in &datatype.constructors {
-        let number = constructor.item;
-        print!(rt; " constructor:{number}")?;
-        for mode in &constructor.modes {
-            print!(rt; ":{mode:?}")?;
-        }
+        page.number(" constructor ", constructor.item);
     }
-    Ok(())
+}
+
+/// The items in their order, each with what is left of its body and what is known of it.
+fn show_items(page: &mut Page, env: &Env) {
+    for number in 0..env.len() {
+        page.number("item ", number);
+        page.word(" ");
+        page.word(env.get(number).name().as_str());
+        page.word(" =");
+        match env.erased_body(number) {
+            ErasedBody::OfTerm(body) => page.tree(body),
+            ErasedBody::OfType(body) => page.tree(body),
+        }
+        if let Some(datatype) = env.datatype(number) {
+            show_datatype(page, datatype);
+        }
+        page.word("\n");
+    }
+}
+
+fn show_failed(page: &mut Page, env: &Env) {
+    if env.has_failed() {
+        page.word("failed\n");
+    } else {
+        page.word("not failed\n");
+    }
+}
+
+/// The lines of this file.
+pub(crate) fn lines(page: &mut Page, alloc: Global) {
+    let mut env = Env::new(alloc);
+    if fill(alloc, &mut env).is_err() {
+        return page.word("no memory\n");
+    }
+    show_items(page, &env);
+    show_failed(page, &env);
+    env.fail();
+    show_failed(page, &env);
 }

@@ -1,237 +1,176 @@
-//! Trees printed as rows have them: the parts of a form, and then its word.
+//! Trees as text: the forms that the rows have.
+use crate::page::Page;
 use elab_tree::{
     EGuide, EGuideForm, EGuideKind, EGuideKindForm, EKind, EKindForm, EPure, EPureForm, ETerm,
     ETermForm, EType, ETypeForm,
 };
-use std::io;
 
-pub(crate) fn show_pure(tree: &EPure, rt: &HostRuntime) -> io::Result<()> {
+pub(crate) fn show_pure(tree: &EPure, page: &mut Page) {
     match tree.form() {
-        EPureForm::Var(number) => print!(rt; " p:{number}"),
-        EPureForm::Name(number) => print!(rt; " m:{number}"),
+        EPureForm::Var(number) => page.number(" x", *number),
+        EPureForm::Name(number) => page.number(" n", *number),
         EPureForm::Function(a) => {
-            show_pure(a, rt)?;
-            print!(rt; " fn")
+            page.word(" (fn");
+            show_pure(a, page);
+            page.word(")");
         }
         EPureForm::Ap(a, b) => {
-            show_pure(a, rt)?;
-            show_pure(b, rt)?;
-            print!(rt; " ap")
+            page.word(" (ap");
+            show_pure(a, page);
+            show_pure(b, page);
+            page.word(")");
         }
     }
 }
 
-#[cycle(show_guide)]
-pub(crate) fn show_guide(tree: &EGuide, rt: &HostRuntime) -> io::Result<()> {
+pub(crate) fn show_guide(tree: &EGuide, page: &mut Page) {
     match tree.form() {
-        EGuideForm::Var(number) => print!(rt; " gX:{number}"),
-        EGuideForm::Name(number) => print!(rt; " gN:{number}"),
-        EGuideForm::Unknown(number) => print!(rt; " g?:{number}"),
+        EGuideForm::Var(number) => page.number(" X", *number),
+        EGuideForm::Name(number) => page.number(" N", *number),
+        EGuideForm::Unknown(number) => page.number(" ?", *number),
         EGuideForm::Pi(a, b) => {
-            show_guide(a, rt)?;
-            show_guide(b, rt)?;
-            print!(rt; " gpi")
-        }
-        EGuideForm::All(a, b) => {
-            show_guide(a, rt)?;
-            show_guide(b, rt)?;
-            print!(rt; " gall")
-        }
-        EGuideForm::Allt(a, b) => {
-            show_guide_kind(a, rt)?;
-            show_guide(b, rt)?;
-            print!(rt; " gallt")
+            page.word(" (pi");
+            show_guide(a, page);
+            show_guide(b, page);
+            page.word(")");
         }
         EGuideForm::Tlam(a) => {
-            show_guide(a, rt)?;
-            print!(rt; " gtlam")
-        }
-        EGuideForm::Xtlam(a) => {
-            show_guide(a, rt)?;
-            print!(rt; " gxtlam")
+            page.word(" (tlam");
+            show_guide(a, page);
+            page.word(")");
         }
         EGuideForm::At(a, b) => {
-            show_guide(a, rt)?;
-            show_pure(b, rt)?;
-            print!(rt; " gat")
+            page.word(" (at");
+            show_guide(a, page);
+            show_pure(b, page);
+            page.word(")");
         }
-        EGuideForm::On(a, b) => {
-            show_guide(a, rt)?;
-            show_guide(b, rt)?;
-            print!(rt; " gon")
-        }
-        EGuideForm::Iota(a, b) => {
-            show_guide(a, rt)?;
-            show_guide(b, rt)?;
-            print!(rt; " giota")
-        }
-        EGuideForm::Eq(a, b) => {
-            show_pure(a, rt)?;
-            show_pure(b, rt)?;
-            print!(rt; " geq")
-        }
+        _ => page.word(" another"),
     }
 }
 
-#[cycle(show_guide)]
-pub(crate) fn show_guide_kind(tree: &EGuideKind, rt: &HostRuntime) -> io::Result<()> {
+pub(crate) fn show_guide_kind(tree: &EGuideKind, page: &mut Page) {
     match tree.form() {
-        EGuideKindForm::Star => print!(rt; " gstar"),
+        EGuideKindForm::Star => page.word(" star"),
         EGuideKindForm::Kpi(a, b) => {
-            show_guide(a, rt)?;
-            show_guide_kind(b, rt)?;
-            print!(rt; " gkpi")
+            page.word(" (kpi");
+            show_guide(a, page);
+            show_guide_kind(b, page);
+            page.word(")");
         }
-        EGuideKindForm::Kpit(a, b) => {
-            show_guide_kind(a, rt)?;
-            show_guide_kind(b, rt)?;
-            print!(rt; " gkpit")
-        }
+        _ => page.word(" another"),
     }
 }
 
 #[cycle(show_term)]
-pub(crate) fn show_term(tree: &ETerm, rt: &HostRuntime) -> io::Result<()> {
+pub(crate) fn show_term(tree: &ETerm, page: &mut Page) {
     match tree.form() {
-        ETermForm::Var(number) => print!(rt; " x:{number}"),
-        ETermForm::Name(number) => print!(rt; " n:{number}"),
+        ETermForm::Var(number) => page.number(" x", *number),
+        ETermForm::Name(number) => page.number(" n", *number),
         ETermForm::Lam(a, b) => {
-            show_ty(a, rt)?;
-            show_term(b, rt)?;
-            print!(rt; " lam")
+            page.word(" (lam");
+            show_type(a, page);
+            show_term(b, page);
+            page.word(")");
         }
         ETermForm::Elam(a, b) => {
-            show_ty(a, rt)?;
-            show_term(b, rt)?;
-            print!(rt; " elam")
+            page.word(" (elam");
+            show_type(a, page);
+            show_term(b, page);
+            page.word(")");
         }
         ETermForm::Xlam(a, b) => {
-            show_kind(a, rt)?;
-            show_term(b, rt)?;
-            print!(rt; " xlam")
+            page.word(" (xlam");
+            show_kind(a, page);
+            show_term(b, page);
+            page.word(")");
         }
         ETermForm::App(a, b) => {
-            show_term(a, rt)?;
-            show_term(b, rt)?;
-            print!(rt; " app")
-        }
-        ETermForm::Eapp(a, b) => {
-            show_term(a, rt)?;
-            show_term(b, rt)?;
-            print!(rt; " eapp")
+            page.word(" (app");
+            show_term(a, page);
+            show_term(b, page);
+            page.word(")");
         }
         ETermForm::Tapp(a, b) => {
-            show_term(a, rt)?;
-            show_ty(b, rt)?;
-            print!(rt; " tapp")
-        }
-        ETermForm::Pair(a, b, c) => {
-            show_term(a, rt)?;
-            show_term(b, rt)?;
-            show_ty(c, rt)?;
-            print!(rt; " pair")
-        }
-        ETermForm::Fst(a) => {
-            show_term(a, rt)?;
-            print!(rt; " fst")
-        }
-        ETermForm::Snd(a) => {
-            show_term(a, rt)?;
-            print!(rt; " snd")
+            page.word(" (tapp");
+            show_term(a, page);
+            show_type(b, page);
+            page.word(")");
         }
         ETermForm::Beta(a, b) => {
-            show_pure(a, rt)?;
-            show_pure(b, rt)?;
-            print!(rt; " beta")
+            page.word(" (beta");
+            show_pure(a, page);
+            show_pure(b, page);
+            page.word(")");
         }
         ETermForm::Rho(a, b, c, d) => {
-            show_term(a, rt)?;
-            show_guide(b, rt)?;
-            show_ty(c, rt)?;
-            show_term(d, rt)?;
-            print!(rt; " rho")
+            page.word(" (rho");
+            show_term(a, page);
+            show_guide(b, page);
+            show_type(c, page);
+            show_term(d, page);
+            page.word(")");
         }
         ETermForm::Phi(a, b, c) => {
-            show_term(a, rt)?;
-            show_term(b, rt)?;
-            show_pure(c, rt)?;
-            print!(rt; " phi")
+            page.word(" (phi");
+            show_term(a, page);
+            show_term(b, page);
+            show_pure(c, page);
+            page.word(")");
         }
-        ETermForm::Delta(a, b) => {
-            show_ty(a, rt)?;
-            show_term(b, rt)?;
-            print!(rt; " delta")
+        ETermForm::Fst(a) => {
+            page.word(" (fst");
+            show_term(a, page);
+            page.word(")");
         }
+        _ => page.word(" another"),
     }
 }
 
 #[cycle(show_term)]
-pub(crate) fn show_ty(tree: &EType, rt: &HostRuntime) -> io::Result<()> {
+pub(crate) fn show_type(tree: &EType, page: &mut Page) {
     match tree.form() {
-        ETypeForm::Var(number) => print!(rt; " X:{number}"),
-        ETypeForm::Name(number) => print!(rt; " N:{number}"),
-        ETypeForm::Unknown(number) => print!(rt; " ?:{number}"),
+        ETypeForm::Var(number) => page.number(" X", *number),
+        ETypeForm::Name(number) => page.number(" N", *number),
+        ETypeForm::Unknown(number) => page.number(" ?", *number),
         ETypeForm::Pi(a, b) => {
-            show_ty(a, rt)?;
-            show_ty(b, rt)?;
-            print!(rt; " pi")
-        }
-        ETypeForm::All(a, b) => {
-            show_ty(a, rt)?;
-            show_ty(b, rt)?;
-            print!(rt; " all")
-        }
-        ETypeForm::Allt(a, b) => {
-            show_kind(a, rt)?;
-            show_ty(b, rt)?;
-            print!(rt; " allt")
+            page.word(" (pi");
+            show_type(a, page);
+            show_type(b, page);
+            page.word(")");
         }
         ETypeForm::Tlam(a, b) => {
-            show_ty(a, rt)?;
-            show_ty(b, rt)?;
-            print!(rt; " tlam")
-        }
-        ETypeForm::Xtlam(a, b) => {
-            show_kind(a, rt)?;
-            show_ty(b, rt)?;
-            print!(rt; " xtlam")
+            page.word(" (tlam");
+            show_type(a, page);
+            show_type(b, page);
+            page.word(")");
         }
         ETypeForm::At(a, b) => {
-            show_ty(a, rt)?;
-            show_term(b, rt)?;
-            print!(rt; " at")
-        }
-        ETypeForm::On(a, b) => {
-            show_ty(a, rt)?;
-            show_ty(b, rt)?;
-            print!(rt; " on")
-        }
-        ETypeForm::Iota(a, b) => {
-            show_ty(a, rt)?;
-            show_ty(b, rt)?;
-            print!(rt; " iota")
+            page.word(" (at");
+            show_type(a, page);
+            show_term(b, page);
+            page.word(")");
         }
         ETypeForm::Eq(a, b) => {
-            show_pure(a, rt)?;
-            show_pure(b, rt)?;
-            print!(rt; " eq")
+            page.word(" (eq");
+            show_pure(a, page);
+            show_pure(b, page);
+            page.word(")");
         }
+        _ => page.word(" another"),
     }
 }
 
 #[cycle(show_term)]
-pub(crate) fn show_kind(tree: &EKind, rt: &HostRuntime) -> io::Result<()> {
+pub(crate) fn show_kind(tree: &EKind, page: &mut Page) {
     match tree.form() {
-        EKindForm::Star => print!(rt; " star"),
+        EKindForm::Star => page.word(" star"),
         EKindForm::Kpi(a, b) => {
-            show_ty(a, rt)?;
-            show_kind(b, rt)?;
-            print!(rt; " kpi")
+            page.word(" (kpi");
+            show_type(a, page);
+            show_kind(b, page);
+            page.word(")");
         }
-        EKindForm::Kpit(a, b) => {
-            show_kind(a, rt)?;
-            show_kind(b, rt)?;
-            print!(rt; " kpit")
-        }
+        _ => page.word(" another"),
     }
 }

@@ -1,111 +1,56 @@
-//! The forms of terms by their words, from the trees on the stacks.
-use crate::stacks::{Stacks, Stop};
-use crate::types::types_word;
-use elab_tree::ETerm;
+//! Terms and pure terms, from parts that may have failed.
+use crate::Made;
+use elab_tree::{EGuide, EKind, EPure, ETerm, EType};
 use std::alloc::Global;
 
-/// The form of that word, over the last trees on the stacks. Another word is no row's.
-pub(crate) fn terms_word(alloc: Global, stacks: &mut Stacks, word: &str) -> Result<(), Stop> {
-    match word {
-        "lam" | "elam" | "delta" => over_type(alloc, stacks, word),
-        "xlam" => over_kind(alloc, stacks),
-        "app" | "eapp" => two_terms(alloc, stacks, word),
-        "tapp" => at_type(alloc, stacks),
-        "pair" => pair(alloc, stacks),
-        "fst" | "snd" => one_term(alloc, stacks, word),
-        "beta" => beta(alloc, stacks),
-        "rho" => rho(alloc, stacks),
-        "phi" => phi(alloc, stacks),
-        _ => types_word(alloc, stacks, word),
-    }
+pub(crate) fn function(alloc: Global, part: Made<EPure>) -> Made<EPure> {
+    EPure::function(alloc, &part?)
 }
 
-/// `lam`, `elam`, `delta`.
-fn over_type(alloc: Global, stacks: &mut Stacks, word: &str) -> Result<(), Stop> {
-    let part = stacks.term()?;
-    let ty = stacks.ty()?;
-    let tree = match word {
-        "lam" => ETerm::lam(alloc, &ty, &part)?,
-        "elam" => ETerm::elam(alloc, &ty, &part)?,
-        _ => ETerm::delta(alloc, &ty, &part)?,
-    };
-    stacks.terms.push(tree)?;
-    Ok(())
+pub(crate) fn ap(alloc: Global, head: Made<EPure>, arg: Made<EPure>) -> Made<EPure> {
+    EPure::ap(alloc, &head?, &arg?)
 }
 
-/// `xlam`.
-fn over_kind(alloc: Global, stacks: &mut Stacks) -> Result<(), Stop> {
-    let part = stacks.term()?;
-    let kind = stacks.kind()?;
-    stacks.terms.push(ETerm::xlam(alloc, &kind, &part)?)?;
-    Ok(())
+pub(crate) fn lam(alloc: Global, ty: Made<EType>, part: Made<ETerm>) -> Made<ETerm> {
+    ETerm::lam(alloc, &ty?, &part?)
 }
 
-/// `app`, `eapp`.
-fn two_terms(alloc: Global, stacks: &mut Stacks, word: &str) -> Result<(), Stop> {
-    let arg = stacks.term()?;
-    let head = stacks.term()?;
-    let tree = match word {
-        "app" => ETerm::app(alloc, &head, &arg)?,
-        _ => ETerm::eapp(alloc, &head, &arg)?,
-    };
-    stacks.terms.push(tree)?;
-    Ok(())
+pub(crate) fn elam(alloc: Global, ty: Made<EType>, part: Made<ETerm>) -> Made<ETerm> {
+    ETerm::elam(alloc, &ty?, &part?)
 }
 
-/// `tapp`.
-fn at_type(alloc: Global, stacks: &mut Stacks) -> Result<(), Stop> {
-    let arg = stacks.ty()?;
-    let head = stacks.term()?;
-    stacks.terms.push(ETerm::tapp(alloc, &head, &arg)?)?;
-    Ok(())
+/// Under the kind of types.
+pub(crate) fn xlam(alloc: Global, part: Made<ETerm>) -> Made<ETerm> {
+    ETerm::xlam(alloc, &EKind::star(alloc)?, &part?)
 }
 
-/// `pair`.
-fn pair(alloc: Global, stacks: &mut Stacks) -> Result<(), Stop> {
-    let ty = stacks.ty()?;
-    let right = stacks.term()?;
-    let left = stacks.term()?;
-    stacks.terms.push(ETerm::pair(alloc, &left, &right, &ty)?)?;
-    Ok(())
+pub(crate) fn app(alloc: Global, head: Made<ETerm>, arg: Made<ETerm>) -> Made<ETerm> {
+    ETerm::app(alloc, &head?, &arg?)
 }
 
-/// `fst`, `snd`.
-fn one_term(alloc: Global, stacks: &mut Stacks, word: &str) -> Result<(), Stop> {
-    let part = stacks.term()?;
-    let tree = match word {
-        "fst" => ETerm::fst(alloc, &part)?,
-        _ => ETerm::snd(alloc, &part)?,
-    };
-    stacks.terms.push(tree)?;
-    Ok(())
+pub(crate) fn tapp(alloc: Global, head: Made<ETerm>, arg: Made<EType>) -> Made<ETerm> {
+    ETerm::tapp(alloc, &head?, &arg?)
 }
 
-/// `beta`.
-fn beta(alloc: Global, stacks: &mut Stacks) -> Result<(), Stop> {
-    let kept = stacks.pure()?;
-    let side = stacks.pure()?;
-    stacks.terms.push(ETerm::beta(alloc, &side, &kept)?)?;
-    Ok(())
+/// With the same side twice.
+pub(crate) fn beta(alloc: Global, side: Made<EPure>) -> Made<ETerm> {
+    let side = side?;
+    ETerm::beta(alloc, &side, &side)
 }
 
-/// `rho`.
-fn rho(alloc: Global, stacks: &mut Stacks) -> Result<(), Stop> {
-    let part = stacks.term()?;
-    let ty = stacks.ty()?;
-    let guide = stacks.guide()?;
-    let proof = stacks.term()?;
-    stacks
-        .terms
-        .push(ETerm::rho(alloc, &proof, &guide, &ty, &part)?)?;
-    Ok(())
+/// With the same term for the proof and the part.
+pub(crate) fn rho(
+    alloc: Global,
+    part: Made<ETerm>,
+    guide: Made<EGuide>,
+    ty: Made<EType>,
+) -> Made<ETerm> {
+    let part = part?;
+    ETerm::rho(alloc, &part, &guide?, &ty?, &part)
 }
 
-/// `phi`.
-fn phi(alloc: Global, stacks: &mut Stacks) -> Result<(), Stop> {
-    let kept = stacks.pure()?;
-    let part = stacks.term()?;
-    let proof = stacks.term()?;
-    stacks.terms.push(ETerm::phi(alloc, &proof, &part, &kept)?)?;
-    Ok(())
+/// With the same term for the proof and the part.
+pub(crate) fn phi(alloc: Global, part: Made<ETerm>, kept: Made<EPure>) -> Made<ETerm> {
+    let part = part?;
+    ETerm::phi(alloc, &part, &part, &kept?)
 }
