@@ -2,8 +2,8 @@
 use Rattle.std.proofs.Common.{◌≡◌, ℕ, ◌+◌, List, [], ◌∷◌, ◌++◌, length, sym, ap, ◌∙◌, arith}
 use Rattle.scope_model.specs.Scope.{count}
 use Rattle.scope_model.specs.ScopeNames.{Exported}
-use Rattle.surf_scope.specs.Known.{exported_all, exported_as}
-use Rattle.surf_scope.specs.declared.exported.ExportedModule.{ExportedModule}
+use Rattle.scope_part.specs.Known.{exported_all, exported_as}
+use Rattle.scope_part.specs.declared.exported.ExportedModule.{ExportedModule}
 
 count_push : (xs : List ExportedModule) (m : ExportedModule) → count (exported_all (xs ++ m ∷ [])) ≡ count (exported_all xs) + length (exported_as m).items
 count_push [] m = omega arith

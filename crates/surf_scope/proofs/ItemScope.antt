@@ -14,15 +14,6 @@ use Rattle.scoped_tree.specs.declared.items.ScopedItem as tree
 use Rattle.scoped_tree.specs.declared.items.ScopedItem.TheVariants.{Def, TypeDef, Data}
 use Rattle.scoped_tree.specs.Items as trees
 use Rattle.surf_scope.specs.Data.{ScopedConstructor, ScopedParameter, SourceConstructor, SourceParameter, constructors_on, parts_on, scoped_constructor, scoped_parameter, taken, under_datatype}
-use Rattle.surf_scope.specs.Results.{Fails}
-use Rattle.surf_scope.specs.declared.fault.ScopeFault as code
-use Rattle.surf_scope.specs.declared.fault.ScopeFault.TheVariants as faults
-
-pub passes_on : {A B : Type 0} (e : code.ScopeFault) (r : Result A ScopeFault) (f : A → Result B ScopeFault) → Fails e r → Fails e (r >>= f)
-passes_on faults.NoMemory r f h = tt
-passes_on (faults.Unbound p) r f h = rw h refl
-passes_on (faults.WrongClass p) r f h = rw h refl
-passes_on (faults.Twice p) r f h = rw h refl
 
 -- ---- texts that are taken
 

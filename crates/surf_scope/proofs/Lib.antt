@@ -1,9 +1,4 @@
-pub mod Bounds
-pub mod FirstUses
-pub mod Scoping
-pub mod Branches
 pub mod Exporting
-pub mod Indexed
 pub mod ItemScope
 pub mod ModuleScope
 pub mod Passing

@@ -5,9 +5,9 @@ use Rattle.source_model.specs.Source.{Item}
 use Rattle.scope_model.specs.Scope.{ScopeFault, ◌>>=◌, item_names, scoped_item, scoped_items}
 use Rattle.scope_model.specs.ScopeNames.{Text, Around}
 use Rattle.scope_model.specs.Scoped.{ScopedItem}
-use Rattle.surf_scope.specs.Results.{Fails}
-use Rattle.surf_scope.proofs.ItemScope.{passes_on}
-use Rattle.surf_scope.specs.declared.fault.ScopeFault as code
+use Rattle.scope_part.specs.Results.{Fails}
+use Rattle.scope_part.specs.declared.fault.ScopeFault as code
+use Rattle.scope_part.proofs.Scoping.{passes_on}
 
 -- items behind those that are done
 abbrev pub items_on : Around → List ScopedItem → List (Item Text) → Result (List ScopedItem) ScopeFault

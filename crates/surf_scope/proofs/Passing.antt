@@ -9,6 +9,7 @@ use Rattle.scope_model.specs.Scope.{ScopeFault, Twice, all_names, constructor_na
 use Rattle.scope_model.specs.ScopeNames.{Text, Around, Bound, Variable}
 use Rattle.scope_model.specs.Scoped.{Scoped, ScopedItem}
 use Rattle.scoped_tree.specs.Items.{AreNumbered, BeginsAt, constructor_of, core_items, item_of, parameter_of}
+use Rattle.scoped_tree.specs.declared.items.ItemName.{ItemName}
 use Rattle.scoped_tree.specs.declared.items.ScopedCtor.{ScopedCtor}
 use Rattle.scoped_tree.specs.declared.items.ScopedParam.{ScopedParam}
 use Rattle.scoped_tree.specs.declared.items.ScopedItem as tree
@@ -17,13 +18,15 @@ use Rattle.surf_tree.specs.Items as source
 use Rattle.surf_tree.specs.declared.items.SrcParam.{SrcParam}
 use Rattle.surf_scope.specs.Data.{ScopedConstructor, ScopedParameter, SourceConstructor, SourceParameter, constructors_on, parts_on, scoped_constructor, scoped_parameter, taken}
 use Rattle.surf_scope.specs.Modules.{spelled_parameter}
-use Rattle.surf_scope.specs.Names.{text_of, text_or_none}
+use Rattle.scope_part.specs.Entries.{listed_names}
+use Rattle.scope_part.specs.Names.{text_of, text_or_none}
 use Rattle.surf_scope.specs.Passed.{GivesParts, taken_of}
-use Rattle.surf_scope.specs.Results.{Fails}
+use Rattle.scope_part.specs.Results.{Fails}
 use Rattle.surf_scope.specs.declared.data.DataParts.{DataParts}
 use Rattle.surf_scope.specs.declared.data_names.DataNames.{DataNames}
-use Rattle.surf_scope.specs.declared.fault.ScopeFault as code
-use Rattle.surf_scope.proofs.ItemScope.{as_many, constructor_step, numbered_push, parameter_step, passes_on, total, total_push}
+use Rattle.scope_part.specs.declared.fault.ScopeFault as code
+use Rattle.scope_part.proofs.Scoping.{passes_on}
+use Rattle.surf_scope.proofs.ItemScope.{as_many, constructor_step, numbered_push, parameter_step, total, total_push}
 use Rattle.surf_scope.proofs.ModuleScope.{item_fails, item_step, items_none, items_on}
 
 pub fails_as : {A : Type 0} (e : code.ScopeFault) (r s : Result A ScopeFault) → r ≡ s → Fails e r → Fails e s
@@ -96,6 +99,15 @@ all_next own now i is all h q = ap (λ (l : List Name). l ++ all_names is) q ∙
 pub all_end : {X : Type 0} (f : List X → List (Item Text)) → f [] ≡ [] → (rest : List X) (own all : List Name) → length rest ≡ 0 → own ++ all_names (f rest) ≡ all → own ≡ all
 all_end f z [] own all n h = sym (append-nil own) ∙ ap (λ (is : List (Item Text)). own ++ all_names is) (sym z) ∙ h
 all_end f z (x ∷ xs) own all n h = absurd (omega arith)
+
+-- ---- names one after the other
+
+pub nothing_left : {X : Type 0} (l : List X) → length l ≡ 0 → l ≡ []
+nothing_left [] h = refl
+nothing_left (x ∷ xs) h = absurd (omega arith)
+
+pub push_all : (xs : List Name) (rest : List ItemName) (old : List Name) (start names : List ItemName) → xs ++ listed_names rest ≡ old ++ listed_names start → rest ≡ [] → start ≡ names → xs ≡ old ++ listed_names names
+push_all xs rest old start names h e g = sym (append-nil xs) ∙ (rw (e, g) at h)
 
 -- ---- over the code's lists
 

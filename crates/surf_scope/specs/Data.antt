@@ -7,7 +7,7 @@ use Rattle.scope_model.specs.Scope.{ScopeFault, ◌>>=◌, scoped, constructors,
 use Rattle.scope_model.specs.ScopeNames.{Text, Around, Bound, Variable}
 use Rattle.scope_model.specs.Scoped.{Reference}
 use Rattle.scoped_tree.specs.Items.{item_name}
-use Rattle.surf_scope.specs.Index.{names_of}
+use Rattle.scope_part.specs.Index.{names_of}
 use Rattle.surf_scope.specs.declared.data_names.DataNames.{DataNames}
 
 -- ---- the names of its items

@@ -1,13 +1,4 @@
-pub mod Entries
-pub mod Index
-pub mod Known
 pub mod Exports
-pub mod Names
-pub mod Spelled
-pub mod Layers
-pub mod Shapes
-pub mod Around
-pub mod Results
 pub mod Modules
 pub mod Data
 pub mod Passed

@@ -2,9 +2,9 @@
 use Rattle.std.specs.Prelude.{ℕ, List, map, Option}
 use Rattle.source_model.specs.Source.{NameUse, Parameter, Constructor, Item, def_item, type_item, data_item, Module}
 use Rattle.scope_model.specs.ScopeNames.{Text}
-use Rattle.surf_scope.specs.Around.{spelled_import}
-use Rattle.surf_scope.specs.Names.{spelled_name, text_of}
-use Rattle.surf_scope.specs.Spelled.{spelled}
+use Rattle.scope_part.specs.Around.{spelled_import}
+use Rattle.scope_part.specs.Names.{spelled_name, text_of}
+use Rattle.scope_part.specs.Spelled.{spelled}
 
 abbrev pub spelled_parameter : List Text → Parameter (Option ℕ) (NameUse ℕ) → Parameter (Option Text) (NameUse Text)
 spelled_parameter names p = record { span = p.span; binder = spelled_name names p.binder; sort = p.sort; class = spelled names p.class }

@@ -5,9 +5,9 @@ use Rattle.source_model.specs.Source.{Module}
 use Rattle.scope_model.specs.Scope.{all_names, around, count, scoped_items}
 use Rattle.scope_model.specs.ScopeNames.{Text, Around, Exported}
 use Rattle.scoped_tree.specs.Items.{AreNumbered, item_of}
-use Rattle.surf_scope.specs.Index.{names_of}
-use Rattle.surf_scope.specs.Results.{Fails}
-use Rattle.surf_scope.specs.declared.fault.ScopeFault as code
+use Rattle.scope_part.specs.Index.{names_of}
+use Rattle.scope_part.specs.Results.{Fails}
+use Rattle.scope_part.specs.declared.fault.ScopeFault as code
 use Rattle.surf_scope.specs.declared.modules.Passed.{Passed}
 
 -- what is known in the module behind these items of its own

@@ -5,12 +5,12 @@ use Rattle.scope_model.specs.Scope.{constructor_names, constructors, item_names,
 use Rattle.scope_model.specs.ScopeNames.{Text, Around, Bound}
 use Rattle.scoped_tree.specs.Items.{BeginsAt, constructor_of, item_of, parameter_of}
 use Rattle.surf_scope.specs.Data.{ScopedParameter, SourceConstructor, SourceParameter, given_names, names_behind, parts_on, taken}
-use Rattle.surf_scope.specs.Entries.{listed_names}
-use Rattle.surf_scope.specs.Results.{Fails}
+use Rattle.scope_part.specs.Entries.{listed_names}
+use Rattle.scope_part.specs.Results.{Fails}
 use Rattle.surf_scope.specs.declared.data.Constructors.{Constructors}
 use Rattle.surf_scope.specs.declared.data.DataParts.{DataParts}
 use Rattle.surf_scope.specs.declared.data_names.DataNames.{DataNames}
-use Rattle.surf_scope.specs.declared.fault.ScopeFault.{ScopeFault}
+use Rattle.scope_part.specs.declared.fault.ScopeFault.{ScopeFault}
 use Rattle.surf_scope.specs.declared.items.NewItem.{NewItem}
 
 abbrev pub taken_of : DataNames → Around → List Text

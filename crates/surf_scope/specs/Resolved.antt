@@ -6,8 +6,8 @@ use Rattle.scope_model.specs.ScopeNames.{Text, Exported}
 use Rattle.scoped_tree.specs.Items.{AreNumbered, exported_of, module_of}
 use Rattle.scoped_tree.specs.Trees.{place}
 use Rattle.scoped_tree.specs.declared.items.ScopedModule.{ScopedModule}
-use Rattle.surf_scope.specs.declared.fault.ScopeFault.{ScopeFault}
-use Rattle.surf_scope.specs.declared.fault.ScopeFault.TheVariants as faults
+use Rattle.scope_part.specs.declared.fault.ScopeFault.{ScopeFault}
+use Rattle.scope_part.specs.declared.fault.ScopeFault.TheVariants as faults
 
 -- the module as those behind it know it: with its name, the number of its first Core item, and the names of these in order
 abbrev pub exported_by : List Exported → Module Text → Exported

@@ -4,13 +4,13 @@ ghost use Rattle.scope_model.specs.Scope.{meets, of_sort, texts};
 ghost use Rattle.scope_model.specs.ScopeNames.{is_one_of};
 ghost use Rattle.scoped_tree.specs.Items.{item_name};
 ghost use Rattle.surf_scope.specs.Data.{back, front, given_names, names_behind};
-ghost use Rattle.surf_scope.specs.Entries.{listed_names};
-ghost use Rattle.surf_scope.specs.Index.{names_of};
+ghost use Rattle.scope_part.specs.Entries.{listed_names};
+ghost use Rattle.scope_part.specs.Index.{names_of};
 ghost use Rattle.cdle_model.specs.declared.grammar.Sort.TheVariants.{OfTerm};
 
-use crate::copies::joined;
-use crate::index::ItemIndex;
+use crate::texts::joined;
 use cdle_model::{NoMemory, Sort, Text};
+use scope_part::ItemIndex;
 use scoped_tree::ItemName;
 use std::alloc::Global;
 

@@ -1,10 +1,10 @@
 //! The modules whose scope is known.
 ghost use Rattle.std.specs.Prelude.{◌≡◌};
 ghost use Rattle.scope_model.specs.Scope.{count as count_of};
-ghost use Rattle.surf_scope.specs.Known.{exported_all};
+ghost use Rattle.scope_part.specs.Known.{exported_all};
 
-use crate::exported::ExportedModule;
 use cdle_model::NoMemory;
+use scope_part::ExportedModule;
 use scoped_tree::ScopedModule;
 use std::alloc::Global;
 

@@ -6,21 +6,18 @@ ghost use Rattle.scope_model.specs.Scope.{of_sort};
 ghost use Rattle.scoped_tree.specs.Items.{BeginsAt, constructor_of as scoped_constructor_of, item_of as scoped_item_of, parameter_of as scoped_parameter_of};
 ghost use Rattle.surf_tree.specs.Forms.{place};
 ghost use Rattle.surf_tree.specs.Items.{constructor_of, item_of, parameter_of};
-ghost use Rattle.surf_scope.specs.Around.{IsReady, around_of};
-ghost use Rattle.surf_scope.specs.Entries.{listed_names};
-ghost use Rattle.surf_scope.specs.Index.{names_of};
+ghost use Rattle.scope_part.specs.Around.{IsReady, around_of};
+ghost use Rattle.scope_part.specs.Entries.{listed_names};
+ghost use Rattle.scope_part.specs.Index.{names_of};
 ghost use Rattle.surf_scope.specs.Modules.{spelled_item};
 ghost use Rattle.surf_scope.specs.Passed.{GivesItem};
 
-use crate::binders::Binders;
-use crate::copies::written;
-use crate::data::DataParts;
+use crate::data::{DataParts, parts};
 use crate::data_names::DataNames;
-use crate::fault::ScopeFault;
-use crate::names::spelling;
-use crate::resolver::Resolver;
+use crate::texts::written;
 use cdle_model::{Sort, Text};
 use cdle_names::{NameId, NameTable, NoMemory, Span};
+use scope_part::{Binders, Resolver, ScopeFault, spelling};
 use scoped_tree::{ItemName, Scoped, ScopedData, ScopedItem};
 use std::alloc::{AllocError, Global};
 use surf_tree::{Src, SrcCtor, SrcItem, SrcKind, SrcParam, SrcType};
@@ -117,148 +114,173 @@ fn new_data(
     })
 }
 
-impl Resolver<'_> {
-    /// A term with its type.
-    fn def(
-        &self,
-        names: &NameTable,
-        name: NameId,
-        span: Span,
-        ty: &SrcType,
-        body: &Src,
-    ) -> Result<NewItem, ScopeFault>
-        requires { IsReady self.now }
-        ensures { GivesItem (around_of names.now self.now) (spelled_item names.now (def_item (place span) name.0 ty.now body.now)) result }
-    {
-        let text = spelling(names, name);
-        if self.own.has(text) {
-            return Err(ScopeFault::Twice { span });
-        }
-        let ty = match self.ty(names, &Binders::Outermost, ty) {
-            Ok(ty) => ty,
-            Err(fault) => return Err(fault),
-        };
-        let body = match self.term(names, &Binders::Outermost, body) {
-            Ok(body) => body,
-            Err(fault) => return Err(fault),
-        };
-        match new_def(self.alloc, spelling(names, self.name), text, span, ty, body) {
-            Ok(new) => Ok(new),
-            Err(NoMemory) => Err(ScopeFault::NoMemory),
-        }
+/// A term with its type.
+fn def(
+    resolver: &Resolver<'_>,
+    names: &NameTable,
+    name: NameId,
+    span: Span,
+    ty: &SrcType,
+    body: &Src,
+) -> Result<NewItem, ScopeFault>
+    requires { IsReady resolver.now }
+    ensures { GivesItem (around_of names.now resolver.now) (spelled_item names.now (def_item (place span) name.0 ty.now body.now)) result }
+{
+    let text = spelling(names, name);
+    if resolver.own.has(text) {
+        return Err(ScopeFault::Twice { span });
     }
+    let ty = match resolver.ty(names, &Binders::Outermost, ty) {
+        Ok(ty) => ty,
+        Err(fault) => return Err(fault),
+    };
+    let body = match resolver.term(names, &Binders::Outermost, body) {
+        Ok(body) => body,
+        Err(fault) => return Err(fault),
+    };
+    match new_def(
+        resolver.alloc,
+        spelling(names, resolver.name),
+        text,
+        span,
+        ty,
+        body,
+    ) {
+        Ok(new) => Ok(new),
+        Err(NoMemory) => Err(ScopeFault::NoMemory),
+    }
+}
 
-    /// A type with its kind.
-    fn type_def(
-        &self,
-        names: &NameTable,
-        name: NameId,
-        span: Span,
-        kind: &SrcKind,
-        body: &SrcType,
-    ) -> Result<NewItem, ScopeFault>
-        requires { IsReady self.now }
-        ensures { GivesItem (around_of names.now self.now) (spelled_item names.now (type_item (place span) name.0 kind.now body.now)) result }
-    {
-        let text = spelling(names, name);
-        if self.own.has(text) {
-            return Err(ScopeFault::Twice { span });
-        }
-        let kind = match self.kind(names, &Binders::Outermost, kind) {
-            Ok(kind) => kind,
-            Err(fault) => return Err(fault),
-        };
-        let body = match self.ty(names, &Binders::Outermost, body) {
-            Ok(body) => body,
-            Err(fault) => return Err(fault),
-        };
-        match new_type(
-            self.alloc,
-            spelling(names, self.name),
-            text,
+/// A type with its kind.
+fn type_def(
+    resolver: &Resolver<'_>,
+    names: &NameTable,
+    name: NameId,
+    span: Span,
+    kind: &SrcKind,
+    body: &SrcType,
+) -> Result<NewItem, ScopeFault>
+    requires { IsReady resolver.now }
+    ensures { GivesItem (around_of names.now resolver.now) (spelled_item names.now (type_item (place span) name.0 kind.now body.now)) result }
+{
+    let text = spelling(names, name);
+    if resolver.own.has(text) {
+        return Err(ScopeFault::Twice { span });
+    }
+    let kind = match resolver.kind(names, &Binders::Outermost, kind) {
+        Ok(kind) => kind,
+        Err(fault) => return Err(fault),
+    };
+    let body = match resolver.ty(names, &Binders::Outermost, body) {
+        Ok(body) => body,
+        Err(fault) => return Err(fault),
+    };
+    match new_type(
+        resolver.alloc,
+        spelling(names, resolver.name),
+        text,
+        span,
+        kind,
+        body,
+    ) {
+        Ok(new) => Ok(new),
+        Err(NoMemory) => Err(ScopeFault::NoMemory),
+    }
+}
+
+/// The number of the item's first Core item.
+fn next_number(resolver: &Resolver<'_>) -> u32
+    requires { resolver.now.first + length (names_of resolver.now.own.now) < 2 ^ 32 }
+    ensures { result ≡ resolver.now.first + length (names_of resolver.now.own.now) }
+{
+    resolver.first + resolver.own.len() as u32
+}
+
+/// A datatype.
+fn data(
+    resolver: &Resolver<'_>,
+    names: &NameTable,
+    name: NameId,
+    span: Span,
+    params: &[SrcParam],
+    ctors: &[SrcCtor],
+) -> Result<NewItem, ScopeFault>
+    requires { IsReady resolver.now }
+    ensures { GivesItem (around_of names.now resolver.now) (spelled_item names.now (data_item (place span) name.0 (map parameter_of params.now) (map constructor_of ctors.now))) result }
+{
+    let text = spelling(names, name);
+    let given = match DataNames::new(resolver.alloc, text) {
+        Ok(given) => given,
+        Err(NoMemory) => return Err(ScopeFault::NoMemory),
+    };
+    if given.any_in(resolver.own) {
+        return Err(ScopeFault::Twice { span });
+    }
+    if params.len() > MOST_PARAMETERS {
+        return Err(ScopeFault::NoMemory);
+    }
+    let done = Vec::new(resolver.alloc);
+    let parts = match parts(
+        resolver,
+        names,
+        &Binders::Outermost,
+        name,
+        given,
+        done,
+        params,
+        ctors,
+    ) {
+        Ok(parts) => parts,
+        Err(fault) => return Err(fault),
+    };
+    let first = next_number(resolver);
+    match new_data(
+        resolver.alloc,
+        spelling(names, resolver.name),
+        text,
+        span,
+        first,
+        parts,
+    ) {
+        Ok(new) => Ok(new),
+        Err(NoMemory) => Err(ScopeFault::NoMemory),
+    }
+}
+
+/// An item whose names are replaced by what they stand for.
+pub(crate) fn resolved_item(
+    resolver: &Resolver<'_>,
+    names: &NameTable,
+    item: &SrcItem,
+) -> Result<NewItem, ScopeFault>
+    requires { IsReady resolver.now }
+    ensures { GivesItem (around_of names.now resolver.now) (spelled_item names.now (item_of item.now)) result }
+{
+    match item {
+        SrcItem::Def {
+            name,
+            span,
+            ty,
+            body,
+        } => def(resolver, names, *name, *span, ty, body),
+        SrcItem::TypeDef {
+            name,
             span,
             kind,
             body,
-        ) {
-            Ok(new) => Ok(new),
-            Err(NoMemory) => Err(ScopeFault::NoMemory),
-        }
-    }
-
-    /// The number of the item's first Core item.
-    fn next_number(&self) -> u32
-        requires { self.now.first + length (names_of self.now.own.now) < 2 ^ 32 }
-        ensures { result ≡ self.now.first + length (names_of self.now.own.now) }
-    {
-        self.first + self.own.len() as u32
-    }
-
-    /// A datatype.
-    fn data(
-        &self,
-        names: &NameTable,
-        name: NameId,
-        span: Span,
-        params: &[SrcParam],
-        ctors: &[SrcCtor],
-    ) -> Result<NewItem, ScopeFault>
-        requires { IsReady self.now }
-        ensures { GivesItem (around_of names.now self.now) (spelled_item names.now (data_item (place span) name.0 (map parameter_of params.now) (map constructor_of ctors.now))) result }
-    {
-        let text = spelling(names, name);
-        let given = match DataNames::new(self.alloc, text) {
-            Ok(given) => given,
-            Err(NoMemory) => return Err(ScopeFault::NoMemory),
-        };
-        if given.any_in(self.own) {
-            return Err(ScopeFault::Twice { span });
-        }
-        if params.len() > MOST_PARAMETERS {
-            return Err(ScopeFault::NoMemory);
-        }
-        let done = Vec::new(self.alloc);
-        let parts = match self.parts(names, &Binders::Outermost, name, given, done, params, ctors) {
-            Ok(parts) => parts,
-            Err(fault) => return Err(fault),
-        };
-        let first = self.next_number();
-        match new_data(
-            self.alloc,
-            spelling(names, self.name),
-            text,
+        } => type_def(resolver, names, *name, *span, kind, body),
+        SrcItem::Data {
+            name,
             span,
-            first,
-            parts,
-        ) {
-            Ok(new) => Ok(new),
-            Err(NoMemory) => Err(ScopeFault::NoMemory),
-        }
-    }
-
-    /// An item whose names are replaced by what they stand for.
-    pub(crate) fn item(&self, names: &NameTable, item: &SrcItem) -> Result<NewItem, ScopeFault>
-        requires { IsReady self.now }
-        ensures { GivesItem (around_of names.now self.now) (spelled_item names.now (item_of item.now)) result }
-    {
-        match item {
-            SrcItem::Def {
-                name,
-                span,
-                ty,
-                body,
-            } => self.def(names, *name, *span, ty, body),
-            SrcItem::TypeDef {
-                name,
-                span,
-                kind,
-                body,
-            } => self.type_def(names, *name, *span, kind, body),
-            SrcItem::Data {
-                name,
-                span,
-                params,
-                ctors,
-            } => self.data(names, *name, *span, params.as_slice(), ctors.as_slice()),
-        }
+            params,
+            ctors,
+        } => data(
+            resolver,
+            names,
+            *name,
+            *span,
+            params.as_slice(),
+            ctors.as_slice(),
+        ),
     }
 }

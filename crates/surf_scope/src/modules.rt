@@ -2,22 +2,19 @@
 ghost use Rattle.std.specs.Prelude.{◌≡◌, ◌+◌, ◌<◌, ◌∷◌, ◌++◌, ◌^◌, [], length, OnOk};
 ghost use Rattle.scope_model.specs.Scope.{count as count_of};
 ghost use Rattle.surf_tree.specs.Items.{item_of, module_of};
-ghost use Rattle.surf_scope.specs.Entries.{listed_names};
+ghost use Rattle.scope_part.specs.Entries.{listed_names};
 ghost use Rattle.surf_scope.specs.Exports.{known};
-ghost use Rattle.surf_scope.specs.Index.{names_of};
+ghost use Rattle.scope_part.specs.Index.{names_of};
 ghost use Rattle.surf_scope.specs.Modules.{spelled_item, spelled_module};
 ghost use Rattle.surf_scope.specs.Passed.{GivesItem};
 ghost use Rattle.surf_scope.specs.Resolved.{IsResolved};
 ghost use Rattle.surf_scope.specs.Modulewise.{GivesItems, around_behind};
 
 use crate::exports::Exports;
-use crate::fault::ScopeFault;
-use crate::index::ItemIndex;
-use crate::items::NewItem;
-use crate::names::spelling;
-use crate::resolver::Resolver;
+use crate::items::{NewItem, resolved_item};
 use cdle_model::Text;
 use cdle_names::{NameTable, NoMemory};
+use scope_part::{ItemIndex, Resolver, ScopeFault, spelling};
 use scoped_tree::{ItemName, ScopedItem, ScopedModule};
 use std::alloc::{AllocError, Global};
 use surf_tree::{SrcItem, SrcModule};
@@ -49,7 +46,7 @@ fn next_item(
         first: exports.count(),
         own,
     };
-    resolver.item(names, item)
+    resolved_item(&resolver, names, item)
 }
 
 /// Puts names behind those of the module.

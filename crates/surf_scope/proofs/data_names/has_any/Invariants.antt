@@ -1,7 +1,7 @@
 use Rattle.std.proofs.Common.{◌≡◌, length}
 use Rattle.scope_model.specs.Scope.{meets, texts}
-use Rattle.surf_scope.specs.Entries.{listed_names}
-use Rattle.surf_scope.specs.Index.{names_of}
+use Rattle.scope_part.specs.Entries.{listed_names}
+use Rattle.scope_part.specs.Index.{names_of}
 use Rattle.surf_scope.proofs.data_names.has_any.Given as goal
 
 abbrev pub invariant-names : goal.invariant-names

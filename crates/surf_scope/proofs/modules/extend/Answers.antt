@@ -2,9 +2,9 @@ use Rattle.std.proofs.Common.{length, ◌++◌, refl, sym, ap, ◌∙◌, List, 
 use Rattle.std.proofs.lemmas.List.{append_assoc}
 use Rattle.std.specs.Vec.Iter.{into_iter_items}
 use Rattle.cdle_model.specs.CoreNames.{Name}
-use Rattle.surf_scope.specs.Entries.{listed_names}
-use Rattle.surf_scope.specs.Index.{names_of}
-use Rattle.surf_scope.proofs.Indexed.{nothing_left, push_all}
+use Rattle.scope_part.specs.Entries.{listed_names}
+use Rattle.scope_part.specs.Index.{names_of}
+use Rattle.surf_scope.proofs.Passing.{nothing_left, push_all}
 use Rattle.surf_scope.proofs.modules.extend.Goals as goal
 
 pub loop-name-init : goal.loop-name-init

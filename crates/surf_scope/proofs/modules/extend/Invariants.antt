@@ -1,7 +1,7 @@
 use Rattle.std.proofs.Common.{◌≡◌, ◌++◌, length}
 use Rattle.std.specs.Vec.Iter.{into_iter_items, into_iter_len}
-use Rattle.surf_scope.specs.Entries.{listed_names}
-use Rattle.surf_scope.specs.Index.{names_of}
+use Rattle.scope_part.specs.Entries.{listed_names}
+use Rattle.scope_part.specs.Index.{names_of}
 use Rattle.surf_scope.proofs.modules.extend.Given as goal
 
 abbrev pub invariant-loop-name : goal.invariant-loop-name

@@ -6,7 +6,7 @@ use Rattle.scoped_tree.specs.declared.items.ScopedItem.{ScopedItem}
 use Rattle.surf_tree.specs.Items.{item_of, module_of}
 use Rattle.surf_tree.specs.declared.items.SrcItem.{SrcItem}
 use Rattle.surf_scope.specs.Exports.{known}
-use Rattle.surf_scope.specs.Index.{names_of}
+use Rattle.scope_part.specs.Index.{names_of}
 use Rattle.surf_scope.specs.Modules.{spelled_item, spelled_items, spelled_module}
 use Rattle.surf_scope.specs.Modulewise.{around_behind}
 use Rattle.surf_scope.proofs.ItemScope.{total}

@@ -3,7 +3,7 @@ use Rattle.scope_model.specs.Scope.{all_names, around, count, scoped_items}
 use Rattle.scoped_tree.specs.Items as scoped
 use Rattle.surf_tree.specs.Items.{item_of, module_of}
 use Rattle.surf_scope.specs.Exports.{known}
-use Rattle.surf_scope.specs.Index.{names_of}
+use Rattle.scope_part.specs.Index.{names_of}
 use Rattle.surf_scope.specs.Modules.{spelled_items, spelled_module}
 use Rattle.surf_scope.specs.Modulewise.{around_behind}
 use Rattle.surf_scope.proofs.ItemScope.{total}

@@ -1,0 +1,9 @@
+pub mod Entries
+pub mod Index
+pub mod Known
+pub mod Names
+pub mod Spelled
+pub mod Layers
+pub mod Shapes
+pub mod Around
+pub mod Results

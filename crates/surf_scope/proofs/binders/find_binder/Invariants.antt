@@ -1,9 +1,0 @@
-use Rattle.std.proofs.Common.{◌≡◌}
-use Rattle.scope_model.specs.ScopeNames.{bound}
-use Rattle.surf_scope.specs.Layers.{bounds}
-use Rattle.surf_scope.proofs.binders.find_binder.Given as goal
-
-abbrev pub invariant-loop-rest : goal.invariant-loop-rest
-invariant-loop-rest l = record {
-  same : bound l.word l.index (bounds l.names l.rest) ≡ bound l.word 0 (bounds l.names l.binders);
-}

@@ -1,5 +1,0 @@
-use Rattle.surf_scope.proofs.Bounds.{pattern_found}
-use Rattle.surf_scope.proofs.binders.find_in_pattern.Goals as goal
-
-pub returns : goal.returns
-returns c = pattern_found c.args.word.now c.args.index c.args.names.now c.patterns.found c.patterns.rest.now c.args.patterns.now c.in_default.ensures.cases c.patterns.invariant.same
