@@ -30,7 +30,9 @@ pub enum Layer<'a> {
 /// The binders around a place, the innermost first.
 #[derive(Drop)]
 pub enum Binders<'a> {
+    /// None.
     Outermost,
+    /// These, within those outside of them.
     Within(Layer<'a>, &'a Binders<'a>),
 }
 
@@ -72,7 +74,7 @@ fn is_prefixed(names: &NameTable, prefix: &str, name: Option<NameId>, word: &str
 }
 
 /// What a pattern's name of that mode is.
-pub(crate) fn mode_class(mode: Mode) -> Sort
+fn mode_class(mode: Mode) -> Sort
     ensures { result ≡ sort_of_mode mode }
 {
     match mode {

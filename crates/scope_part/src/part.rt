@@ -112,7 +112,7 @@ impl Resolver<'_> {
         ensures { Gives (λ t. t) result (scoped (around_of names.now self.now) [] (bounds names.now binders.now) sort (spelled names.now (use_of (place span) (name_use name)))) }
     {
         match self.reference(names, binders, sort, span, name) {
-            Ok(reference) => match Scoped::name(self.alloc(), span, reference) {
+            Ok(reference) => match Scoped::name(self.alloc, span, reference) {
                 Ok(tree) => Ok(tree),
                 Err(NoMemory) => Err(ScopeFault::NoMemory),
             },
@@ -132,7 +132,7 @@ impl Resolver<'_> {
     ) -> Result<Scoped, ScopeFault>
         ensures { Gives (λ t. t) result (scoped (around_of names.now self.now) [] (bounds names.now binders.now) sort (spelled names.now (leaf (place span) (leaf_form form)))) }
     {
-        match Scoped::leaf(self.alloc(), span, form) {
+        match Scoped::leaf(self.alloc, span, form) {
             Ok(tree) => Ok(tree),
             Err(NoMemory) => Err(ScopeFault::NoMemory),
         }
@@ -186,7 +186,7 @@ impl Resolver<'_> {
             Ok(inner) => inner,
             Err(fault) => return Err(fault),
         };
-        match Scoped::one(self.alloc(), span, form, inner) {
+        match Scoped::one(self.alloc, span, form, inner) {
             Ok(tree) => Ok(tree),
             Err(NoMemory) => Err(ScopeFault::NoMemory),
         }
@@ -216,7 +216,7 @@ impl Resolver<'_> {
             Ok(second) => second,
             Err(fault) => return Err(fault),
         };
-        match Scoped::two(self.alloc(), span, form, first, second) {
+        match Scoped::two(self.alloc, span, form, first, second) {
             Ok(tree) => Ok(tree),
             Err(NoMemory) => Err(ScopeFault::NoMemory),
         }
@@ -249,7 +249,7 @@ impl Resolver<'_> {
             Ok(body) => body,
             Err(fault) => return Err(fault),
         };
-        match Scoped::bind(self.alloc(), span, known, domain, body) {
+        match Scoped::bind(self.alloc, span, known, domain, body) {
             Ok(tree) => Ok(tree),
             Err(NoMemory) => Err(ScopeFault::NoMemory),
         }
@@ -285,7 +285,7 @@ impl Resolver<'_> {
             Ok(branches) => branches,
             Err(fault) => return Err(fault),
         };
-        match Scoped::cases(self.alloc(), span, form, of, motive, branches) {
+        match Scoped::cases(self.alloc, span, form, of, motive, branches) {
             Ok(tree) => Ok(tree),
             Err(NoMemory) => Err(ScopeFault::NoMemory),
         }
@@ -305,7 +305,7 @@ impl Resolver<'_> {
         requires { IsReady self.now }
         ensures { Gives (λ v. scoped_chain v.items) result (scoped (around_of names.now self.now) (of_case (case_form form) (text_or_none names.now var)) (bounds names.now binders.now) OfTerm (spelled names.now (chain branches.now))) }
     {
-        let mut done = Vec::new(self.alloc());
+        let mut done = Vec::new(self.alloc);
         let mut rest = branches;
         'branches: while let Some((first, others)) = rest.split_first() {
             let branch = match self.branch(names, binders, form, var, first) {
@@ -346,7 +346,7 @@ impl Resolver<'_> {
             Ok(part) => part,
             Err(fault) => return Err(fault),
         };
-        match arguments(self.alloc(), branch.args.as_slice()) {
+        match arguments(self.alloc, branch.args.as_slice()) {
             Ok(args) => Ok(ScopedBranch {
                 ctor,
                 span: branch.span,

@@ -25,13 +25,17 @@ use surf_tree::NameUse;
 /// What is known at an item.
 #[derive(Drop)]
 pub struct Resolver<'a> {
+    /// The memory in which trees are made.
     pub alloc: Global,
-    /// The module's own name, and those of the modules that it imports.
+    /// The module's own name.
     pub name: NameId,
+    /// The names of the modules that it imports, with their places.
     pub imports: &'a [(NameId, Span)],
+    /// The modules that are known.
     pub modules: &'a [ExportedModule],
-    /// The number of the module's first Core item, and the names of those before this item.
+    /// The number of the module's first Core item.
     pub first: u32,
+    /// The names of the module's Core items before this item.
     pub own: &'a ItemIndex,
 }
 
@@ -192,10 +196,5 @@ impl Resolver<'_> {
             Ok(found) => of_sort(span, sort, found),
             Err(NoMemory) => Err(ScopeFault::NoMemory),
         }
-    }
-
-    /// The memory in which trees are made.
-    pub(crate) fn alloc(&self) -> Global {
-        self.alloc
     }
 }
