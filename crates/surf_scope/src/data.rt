@@ -137,7 +137,7 @@ fn constructor(
 }
 
 /// The constructors under the parameters and the datatype.
-fn constructors(
+fn all_constructors(
     resolver: &Resolver<'_>,
     names: &NameTable,
     binders: &Binders<'_>,
@@ -183,7 +183,7 @@ fn last_parts(
 {
     let layer = Layer::Variable(Some(datatype), Sort::OfType);
     let inner = Binders::Within(layer, &*binders);
-    match constructors(resolver, names, &inner, given, ctors) {
+    match all_constructors(resolver, names, &inner, given, ctors) {
         Ok(found) => match data_parts(done, found) {
             Ok(parts) => Ok(parts),
             Err(NoMemory) => Err(ScopeFault::NoMemory),

@@ -9,7 +9,7 @@ use Rattle.scope_part.specs.Layers.{bounds}
 use Rattle.surf_scope.specs.Modules.{spelled_constructor}
 use Rattle.surf_scope.specs.Passed.{taken_of}
 use Rattle.surf_scope.proofs.Passing.{ctors_next, names_next}
-use Rattle.surf_scope.proofs.data.constructors.Goals as goal
+use Rattle.surf_scope.proofs.data.all_constructors.Goals as goal
 
 pub ctors-preserved : goal.ctors-preserved
 ctors-preserved c =

@@ -7,7 +7,7 @@ use Rattle.surf_scope.specs.Data.{constructors_on, given_names, names_behind}
 use Rattle.scope_part.specs.Layers.{bounds}
 use Rattle.surf_scope.specs.Modules.{spelled_constructor}
 use Rattle.surf_scope.specs.Passed.{taken_of}
-use Rattle.surf_scope.proofs.data.constructors.Given as goal
+use Rattle.surf_scope.proofs.data.all_constructors.Given as goal
 
 abbrev pub invariant-ctors : goal.invariant-ctors
 invariant-ctors l = record {
