@@ -1,4 +1,5 @@
 pub mod Forms
+pub mod Shapes
 pub mod Sizes
 pub mod Solved
 pub mod Changes

@@ -1,12 +1,14 @@
 //! Erasures of terms, types and kinds.
 ghost use Rattle.std.specs.Prelude.{◌≡◌, IfOk};
 ghost use Rattle.cdle_model.specs.Trees.{var};
-ghost use Rattle.cdle_model.specs.Forms.{fn};
+ghost use Rattle.cdle_model.specs.Forms.{allt, at_, fn};
 ghost use Rattle.cdle_model.specs.Erasure.{erased, lowered};
+ghost use Rattle.elab_tree.specs.Shapes.{guides_over};
 
 use crate::change::Change;
 use crate::guide::{EGuide, EGuideForm, EGuideKind, EGuideKindForm};
 use crate::pure::{EPure, EPureForm};
+use crate::shapes::OverGuides;
 use crate::stop::refuse_deep_erasure;
 use crate::term::{EKind, EKindForm, ETerm, ETermForm, EType, ETypeForm};
 use cdle_model::NoMemory;
@@ -82,19 +84,9 @@ impl EType {
             ETypeForm::Var(index) => EGuide::of(alloc, EGuideForm::Var(*index)),
             ETypeForm::Name(item) => EGuide::of(alloc, EGuideForm::Name(*item)),
             ETypeForm::Unknown(number) => EGuide::of(alloc, EGuideForm::Unknown(*number)),
-            ETypeForm::Pi(domain, part) => {
-                let (domain, part) = domain.erase_both(alloc, part)?;
-                EGuide::of(alloc, EGuideForm::Pi(domain, part))
-            }
-            ETypeForm::All(domain, part) => {
-                let (domain, part) = domain.erase_both(alloc, part)?;
-                EGuide::of(alloc, EGuideForm::All(domain, part))
-            }
-            ETypeForm::Allt(domain, part) => {
-                let domain = domain.erase(alloc)?;
-                let part = part.erase(alloc)?;
-                EGuide::of(alloc, EGuideForm::Allt(domain, part))
-            }
+            ETypeForm::Pi(domain, part) => domain.erase_two(alloc, OverGuides::Pi, part),
+            ETypeForm::All(domain, part) => domain.erase_two(alloc, OverGuides::All, part),
+            ETypeForm::Allt(domain, part) => domain.erase_allt(alloc, part),
             ETypeForm::Tlam(_, part) => {
                 let part = part.erase(alloc)?;
                 EGuide::of(alloc, EGuideForm::Tlam(part))
@@ -105,30 +97,32 @@ impl EType {
             }
             ETypeForm::At(head, arg) => {
                 let head = head.erase(alloc)?;
-                let arg = arg.erase(alloc)?;
-                EGuide::of(alloc, EGuideForm::At(head, arg))
+                head.applied_by(alloc, arg)
             }
-            ETypeForm::On(head, arg) => {
-                let (head, arg) = head.erase_both(alloc, arg)?;
-                EGuide::of(alloc, EGuideForm::On(head, arg))
-            }
-            ETypeForm::Iota(left, right) => {
-                let (left, right) = left.erase_both(alloc, right)?;
-                EGuide::of(alloc, EGuideForm::Iota(left, right))
-            }
+            ETypeForm::On(head, arg) => head.erase_two(alloc, OverGuides::On, arg),
+            ETypeForm::Iota(left, right) => left.erase_two(alloc, OverGuides::Iota, right),
             ETypeForm::Eq(left, right) => EGuide::eq(alloc, left, right),
         }
     }
 
-    /// The erasure of this type and that of another one.
+    /// The guide of that form over the erasure of this type and that of another one.
     #[cycle(erase)]
-    fn erase_both(&self, alloc: Global, other: &EType) -> Result<(EGuide, EGuide), NoMemory>
-        ensures first { IfOk result (λ both. both.0 ≡ erased self.now) }
-        ensures second { IfOk result (λ both. both.1 ≡ erased other.now) }
+    fn erase_two(&self, alloc: Global, form: OverGuides, other: &EType) -> Result<EGuide, NoMemory>
+        ensures { IfOk result (λ t. t ≡ guides_over form (erased self.now) (erased other.now)) }
     {
         let first = self.erase(alloc)?;
         let second = other.erase(alloc)?;
-        Ok((first, second))
+        EGuide::over(alloc, form, first, second)
+    }
+}
+
+impl EGuide {
+    /// This guide applied by the erasure of the term.
+    fn applied_by(self, alloc: Global, arg: &ETerm) -> Result<EGuide, NoMemory>
+        ensures { IfOk result (λ t. t ≡ at_ self (erased arg.now)) }
+    {
+        let arg = arg.erase(alloc)?;
+        EGuide::of(alloc, EGuideForm::At(self, arg))
     }
 }
 
@@ -152,5 +146,15 @@ impl EKind {
                 EGuideKind::of(alloc, EGuideKindForm::Kpit(domain, part))
             }
         }
+    }
+
+    /// The erasure of the type over this domain.
+    #[cycle(erase)]
+    fn erase_allt(&self, alloc: Global, part: &EType) -> Result<EGuide, NoMemory>
+        ensures { IfOk result (λ t. t ≡ allt (erased self.now) (erased part.now)) }
+    {
+        let domain = self.erase(alloc)?;
+        let part = part.erase(alloc)?;
+        EGuide::of(alloc, EGuideForm::Allt(domain, part))
     }
 }

@@ -119,7 +119,7 @@ impl EGuide {
     /// The form, with its parts.
     pub fn form(&self) -> &EGuideForm
         ensures is { guide_tree result.now ≡ self.now }
-        ensures bounded { depth self.now ≤ 32768 }
+        ensures bounded { depth self.now ≤ 16384 }
     {
         &self.node.form
     }
@@ -127,7 +127,7 @@ impl EGuide {
     /// 0 at a leaf, and at any other form one more than its deepest part.
     pub fn depth(&self) -> u32
         ensures is { result ≡ depth self.now }
-        ensures bounded { result ≤ 32768 }
+        ensures bounded { result ≤ 16384 }
     {
         self.node.size.depth
     }
@@ -149,7 +149,7 @@ impl EGuide {
     /// What the node keeps of the tree. It tells a proof the class of the tree, too.
     pub(crate) fn size(&self) -> Size
         ensures is { IsSize result self.now }
-        ensures bounded { depth self.now ≤ 32768 }
+        ensures bounded { depth self.now ≤ 16384 }
         ensures class { IsOf guides (filled self.now) }
     {
         self.node.size
@@ -182,7 +182,7 @@ impl EGuideKind {
     /// The form, with its parts.
     pub fn form(&self) -> &EGuideKindForm
         ensures is { guide_kind_tree result.now ≡ self.now }
-        ensures bounded { depth self.now ≤ 32768 }
+        ensures bounded { depth self.now ≤ 16384 }
     {
         &self.node.form
     }
@@ -190,7 +190,7 @@ impl EGuideKind {
     /// 0 at a leaf, and at any other form one more than its deepest part.
     pub fn depth(&self) -> u32
         ensures is { result ≡ depth self.now }
-        ensures bounded { result ≤ 32768 }
+        ensures bounded { result ≤ 16384 }
     {
         self.node.size.depth
     }
@@ -212,7 +212,7 @@ impl EGuideKind {
     /// What the node keeps of the tree. It tells a proof the class of the tree, too.
     pub(crate) fn size(&self) -> Size
         ensures is { IsSize result self.now }
-        ensures bounded { depth self.now ≤ 32768 }
+        ensures bounded { depth self.now ≤ 16384 }
         ensures class { IsOf guide_kinds (filled self.now) }
     {
         self.node.size

@@ -1,13 +1,17 @@
 //! What a change makes of guides and guide kinds.
 ghost use Rattle.std.specs.Prelude.{◌≡◌, ◌+◌, ◌<◌, ◌^◌};
 ghost use Rattle.cdle_model.specs.Trees.{leaf, shift, unknown};
+ghost use Rattle.cdle_model.specs.Forms.{allt, at_, eq};
 ghost use Rattle.cdle_model.specs.Depth.{depth};
 ghost use Rattle.elab_tree.specs.Forms.{guide_kind_tree, guide_tree};
-ghost use Rattle.elab_tree.specs.Answers.{Makes, MakesBoth};
+ghost use Rattle.elab_tree.specs.Shapes.{guides_over};
+ghost use Rattle.elab_tree.specs.Answers.{Makes};
 ghost use Rattle.elab_tree.specs.Changes.{changed, fills, stands, unannotated};
 
 use crate::change::Change;
 use crate::guide::{EGuide, EGuideForm, EGuideKind, EGuideKindForm};
+use crate::pure::EPure;
+use crate::shapes::OverGuides;
 use crate::stop::{TreeStop, refuse_too_deep};
 use std::alloc::Global;
 
@@ -31,18 +35,23 @@ impl EGuide {
             EGuideForm::Var(index) => EGuide::variable(alloc, change, under, *index),
             EGuideForm::Name(_) => self.again(),
             EGuideForm::Unknown(number) => self.hole(alloc, change, under, *number),
-            EGuideForm::Pi(domain, part) => {
-                let (domain, part) = domain.change_both(alloc, change, under, under + 1, part)?;
-                EGuide::made(alloc, EGuideForm::Pi(domain, part))
-            }
-            EGuideForm::All(domain, part) => {
-                let (domain, part) = domain.change_both(alloc, change, under, under + 1, part)?;
-                EGuide::made(alloc, EGuideForm::All(domain, part))
-            }
-            EGuideForm::Allt(domain, part) => {
-                let (domain, part) = domain.change_domain(alloc, change, under, part)?;
-                EGuide::made(alloc, EGuideForm::Allt(domain, part))
-            }
+            EGuideForm::Pi(domain, part) => domain.change_two(
+                alloc,
+                change,
+                under,
+                under + 1,
+                OverGuides::Pi,
+                part,
+            ),
+            EGuideForm::All(domain, part) => domain.change_two(
+                alloc,
+                change,
+                under,
+                under + 1,
+                OverGuides::All,
+                part,
+            ),
+            EGuideForm::Allt(domain, part) => domain.change_allt(alloc, change, under, part),
             EGuideForm::Tlam(part) => {
                 let part = part.change(alloc, change, under + 1)?;
                 EGuide::made(alloc, EGuideForm::Tlam(part))
@@ -53,21 +62,25 @@ impl EGuide {
             }
             EGuideForm::At(head, arg) => {
                 let head = head.change(alloc, change, under)?;
-                let arg = arg.change(alloc, change, under)?;
-                EGuide::made(alloc, EGuideForm::At(head, arg))
+                head.applied(alloc, change, under, arg)
             }
-            EGuideForm::On(head, arg) => {
-                let (head, arg) = head.change_both(alloc, change, under, under, arg)?;
-                EGuide::made(alloc, EGuideForm::On(head, arg))
-            }
-            EGuideForm::Iota(left, right) => {
-                let (left, right) = left.change_both(alloc, change, under, under + 1, right)?;
-                EGuide::made(alloc, EGuideForm::Iota(left, right))
-            }
-            EGuideForm::Eq(left, right) => {
-                let (left, right) = left.change_both(alloc, change, under, right)?;
-                EGuide::made(alloc, EGuideForm::Eq(left, right))
-            }
+            EGuideForm::On(head, arg) => head.change_two(
+                alloc,
+                change,
+                under,
+                under,
+                OverGuides::On,
+                arg,
+            ),
+            EGuideForm::Iota(left, right) => left.change_two(
+                alloc,
+                change,
+                under,
+                under + 1,
+                OverGuides::Iota,
+                right,
+            ),
+            EGuideForm::Eq(left, right) => EGuide::change_eq(alloc, change, under, left, right),
         }
     }
 
@@ -123,24 +136,57 @@ impl EGuide {
         self.change(alloc, &raise, 0)
     }
 
-    /// What the change makes of this guide and of another one, each below its own number of binders.
+    /// The node of that form over what the change makes of this guide and of another one, each below its own number of binders.
     #[cycle(change_guide)]
-    #[tactic(auto, using(crate::proofs::Changes::changing))]
-    fn change_both(
+    #[tactic(auto, using(crate::proofs::Changes::changing, crate::proofs::Deeper::deeper))]
+    fn change_two(
         &self,
         alloc: Global,
         change: &Change<'_>,
         under: u32,
         inside: u32,
+        form: OverGuides,
         other: &EGuide,
-    ) -> Result<(EGuide, EGuide), TreeStop>
+    ) -> Result<EGuide, TreeStop>
         requires first { under + depth self.now < 2 ^ 32 }
         requires second { inside + depth other.now < 2 ^ 32 }
-        ensures { MakesBoth (changed change.now unannotated under self.now) (changed change.now unannotated inside other.now) result }
+        ensures { Makes (guides_over form (changed change.now unannotated under self.now) (changed change.now unannotated inside other.now)) result }
     {
         let first = self.change(alloc, change, under)?;
         let second = other.change(alloc, change, inside)?;
-        Ok((first, second))
+        Ok(EGuide::over(alloc, form, first, second)?)
+    }
+
+    /// This guide applied by what the change makes of the pure term.
+    #[tactic(auto, using(crate::proofs::Changes::changing))]
+    fn applied(
+        self,
+        alloc: Global,
+        change: &Change<'_>,
+        under: u32,
+        arg: &EPure,
+    ) -> Result<EGuide, TreeStop>
+        requires { under + depth arg.now < 2 ^ 32 }
+        ensures { Makes (at_ self (changed change.now unannotated under arg.now)) result }
+    {
+        let arg = arg.change(alloc, change, under)?;
+        EGuide::made(alloc, EGuideForm::At(self, arg))
+    }
+
+    /// What the change makes of an equation of both sides.
+    #[tactic(auto, using(crate::proofs::Changes::changing))]
+    fn change_eq(
+        alloc: Global,
+        change: &Change<'_>,
+        under: u32,
+        left: &EPure,
+        right: &EPure,
+    ) -> Result<EGuide, TreeStop>
+        requires { under + depth (eq left.now right.now) < 2 ^ 32 }
+        ensures { Makes (changed change.now unannotated under (eq left.now right.now)) result }
+    {
+        let (left, right) = left.change_both(alloc, change, under, right)?;
+        EGuide::made(alloc, EGuideForm::Eq(left, right))
     }
 
     /// The same node once more.
@@ -189,23 +235,22 @@ impl EGuideKind {
         }
     }
 
-    /// What the change makes of this domain and of the part under its variable.
+    /// What the change makes of the guide over this domain.
     #[cycle(change_guide)]
     #[tactic(auto, using(crate::proofs::Changes::changing))]
-    fn change_domain(
+    fn change_allt(
         &self,
         alloc: Global,
         change: &Change<'_>,
         under: u32,
         part: &EGuide,
-    ) -> Result<(EGuideKind, EGuide), TreeStop>
-        requires domain { under + depth self.now < 2 ^ 32 }
-        requires part { under + 1 + depth part.now < 2 ^ 32 }
-        ensures { MakesBoth (changed change.now unannotated under self.now) (changed change.now unannotated (under + 1) part.now) result }
+    ) -> Result<EGuide, TreeStop>
+        requires { under + depth (allt self.now part.now) < 2 ^ 32 }
+        ensures { Makes (changed change.now unannotated under (allt self.now part.now)) result }
     {
         let domain = self.change(alloc, change, under)?;
         let part = part.change(alloc, change, under + 1)?;
-        Ok((domain, part))
+        EGuide::made(alloc, EGuideForm::Allt(domain, part))
     }
 
     /// The same node once more.

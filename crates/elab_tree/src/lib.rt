@@ -2,8 +2,8 @@
 //!
 //! A tree is a node shared by its owners. Each node is the definitions' tree of its form, and is of its class once its unknowns are
 //! replaced. Erasure, shifting, putting and solving give what the definitions give, or tell that the tree is too deep or that memory is
-//! wanted; none of them asks anything of its trees. What a change leaves as it was stays the same node. The crate has also the items
-//! that elaboration gives, and the list of the items so far. It stands on `cdle_model` alone.
+//! wanted; none of them asks anything of its trees. The code shares the nodes that a change leaves as they were, but no contract says so.
+//! The crate has also the items that elaboration gives, and the list of the items so far. It stands on `cdle_model` alone.
 #![tactic(auto)]
 
 mod change;
@@ -18,6 +18,7 @@ mod laws;
 mod pure;
 mod pure_change;
 mod puts;
+mod shapes;
 mod sharing;
 mod size;
 mod stop;

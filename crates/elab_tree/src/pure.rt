@@ -97,7 +97,7 @@ impl EPure {
     /// The form, with its parts.
     pub fn form(&self) -> &EPureForm
         ensures is { pure_tree result.now ≡ self.now }
-        ensures bounded { depth self.now ≤ 32768 }
+        ensures bounded { depth self.now ≤ 16384 }
     {
         &self.node.form
     }
@@ -105,7 +105,7 @@ impl EPure {
     /// 0 at a leaf, and at any other form one more than its deepest part.
     pub fn depth(&self) -> u32
         ensures is { result ≡ depth self.now }
-        ensures bounded { result ≤ 32768 }
+        ensures bounded { result ≤ 16384 }
     {
         self.node.size.depth
     }
@@ -127,7 +127,7 @@ impl EPure {
     /// What the node keeps of the tree. It tells a proof the class of the tree, too.
     pub(crate) fn size(&self) -> Size
         ensures is { IsSize result self.now }
-        ensures bounded { depth self.now ≤ 32768 }
+        ensures bounded { depth self.now ≤ 16384 }
         ensures class { IsOf pure_terms (filled self.now) }
     {
         self.node.size

@@ -1,5 +1,5 @@
 //! What a node keeps of its tree, so that nobody has to go over the tree for it.
-ghost use Rattle.std.specs.Prelude.{◌≡◌, ◌+◌, ◌-◌, ◌≤◌, max, ◌||◌};
+ghost use Rattle.std.specs.Prelude.{◌≡◌, ◌+◌, ◌-◌, ◌<◌, max, ◌||◌};
 
 /// The deepest tree that is built: the drop of one goes down by one call for each level, and must not leave the stack that a program has
 /// by default, as either compiler builds it.
@@ -60,7 +60,7 @@ impl Size {
 
     /// That of the node over these parts.
     pub(crate) fn over(self) -> Size
-        requires { self.depth ≤ 32768 }
+        requires { self.depth < 4294967295 }
         ensures depth { result.depth ≡ self.depth + 1 }
         ensures free { result.free ≡ self.free }
         ensures unknown { result.unknown ≡ self.unknown }

@@ -179,7 +179,7 @@ impl ETerm {
     /// The form, with its parts.
     pub fn form(&self) -> &ETermForm
         ensures is { term_tree result.now ≡ self.now }
-        ensures bounded { depth self.now ≤ 32768 }
+        ensures bounded { depth self.now ≤ 16384 }
     {
         &self.node.form
     }
@@ -187,7 +187,7 @@ impl ETerm {
     /// 0 at a leaf, and at any other form one more than its deepest part.
     pub fn depth(&self) -> u32
         ensures is { result ≡ depth self.now }
-        ensures bounded { result ≤ 32768 }
+        ensures bounded { result ≤ 16384 }
     {
         self.node.size.depth
     }
@@ -209,7 +209,7 @@ impl ETerm {
     /// What the node keeps of the tree. It tells a proof the class of the tree, too.
     pub(crate) fn size(&self) -> Size
         ensures is { IsSize result self.now }
-        ensures bounded { depth self.now ≤ 32768 }
+        ensures bounded { depth self.now ≤ 16384 }
         ensures class { IsOf terms (filled self.now) }
     {
         self.node.size
@@ -242,7 +242,7 @@ impl EType {
     /// The form, with its parts.
     pub fn form(&self) -> &ETypeForm
         ensures is { type_tree result.now ≡ self.now }
-        ensures bounded { depth self.now ≤ 32768 }
+        ensures bounded { depth self.now ≤ 16384 }
     {
         &self.node.form
     }
@@ -250,7 +250,7 @@ impl EType {
     /// 0 at a leaf, and at any other form one more than its deepest part.
     pub fn depth(&self) -> u32
         ensures is { result ≡ depth self.now }
-        ensures bounded { result ≤ 32768 }
+        ensures bounded { result ≤ 16384 }
     {
         self.node.size.depth
     }
@@ -272,7 +272,7 @@ impl EType {
     /// What the node keeps of the tree. It tells a proof the class of the tree, too.
     pub(crate) fn size(&self) -> Size
         ensures is { IsSize result self.now }
-        ensures bounded { depth self.now ≤ 32768 }
+        ensures bounded { depth self.now ≤ 16384 }
         ensures class { IsOf types (filled self.now) }
     {
         self.node.size
@@ -305,7 +305,7 @@ impl EKind {
     /// The form, with its parts.
     pub fn form(&self) -> &EKindForm
         ensures is { kind_tree result.now ≡ self.now }
-        ensures bounded { depth self.now ≤ 32768 }
+        ensures bounded { depth self.now ≤ 16384 }
     {
         &self.node.form
     }
@@ -313,7 +313,7 @@ impl EKind {
     /// 0 at a leaf, and at any other form one more than its deepest part.
     pub fn depth(&self) -> u32
         ensures is { result ≡ depth self.now }
-        ensures bounded { result ≤ 32768 }
+        ensures bounded { result ≤ 16384 }
     {
         self.node.size.depth
     }
@@ -335,7 +335,7 @@ impl EKind {
     /// What the node keeps of the tree. It tells a proof the class of the tree, too.
     pub(crate) fn size(&self) -> Size
         ensures is { IsSize result self.now }
-        ensures bounded { depth self.now ≤ 32768 }
+        ensures bounded { depth self.now ≤ 16384 }
         ensures class { IsOf kinds (filled self.now) }
     {
         self.node.size

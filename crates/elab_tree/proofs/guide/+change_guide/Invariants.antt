@@ -9,11 +9,11 @@ decreases-EGuide::change l = weight l.change.now + 3 * depth l.self.now + 3
 abbrev pub decreases-EGuideKind::change : goal.decreases-EGuideKind::change
 decreases-EGuideKind::change l = weight l.change.now + 3 * depth l.self.now + 3
 
-abbrev pub decreases-EGuide::change_both : goal.decreases-EGuide::change_both
-decreases-EGuide::change_both l = weight l.change.now + 3 * max (depth l.self.now) (depth l.other.now) + 4
+abbrev pub decreases-EGuide::change_two : goal.decreases-EGuide::change_two
+decreases-EGuide::change_two l = weight l.change.now + 3 * max (depth l.self.now) (depth l.other.now) + 4
 
-abbrev pub decreases-EGuideKind::change_domain : goal.decreases-EGuideKind::change_domain
-decreases-EGuideKind::change_domain l = weight l.change.now + 3 * max (depth l.self.now) (depth l.part.now) + 4
+abbrev pub decreases-EGuideKind::change_allt : goal.decreases-EGuideKind::change_allt
+decreases-EGuideKind::change_allt l = weight l.change.now + 3 * max (depth l.self.now) (depth l.part.now) + 4
 
 abbrev pub decreases-EGuide::variable : goal.decreases-EGuide::variable
 decreases-EGuide::variable l = weight l.change.now + 1

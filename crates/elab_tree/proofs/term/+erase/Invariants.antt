@@ -8,5 +8,8 @@ decreases-EType::erase l = 2 * depth l.self.now + 1
 abbrev pub decreases-EKind::erase : goal.decreases-EKind::erase
 decreases-EKind::erase l = 2 * depth l.self.now + 1
 
-abbrev pub decreases-EType::erase_both : goal.decreases-EType::erase_both
-decreases-EType::erase_both l = 2 * max (depth l.self.now) (depth l.other.now) + 2
+abbrev pub decreases-EType::erase_two : goal.decreases-EType::erase_two
+decreases-EType::erase_two l = 2 * max (depth l.self.now) (depth l.other.now) + 2
+
+abbrev pub decreases-EKind::erase_allt : goal.decreases-EKind::erase_allt
+decreases-EKind::erase_allt l = 2 * max (depth l.self.now) (depth l.part.now) + 2
