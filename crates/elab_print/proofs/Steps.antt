@@ -21,11 +21,6 @@ joined_assoc (Some x) (Some y) None = refl
 joined_assoc (Some x) None c = refl
 joined_assoc None b c = refl
 
-pub stops_first : (a b : Text) (e : PartStop) → Stops a e → Stops (joined a b) e
-stops_first a b NoMemory h = tt
-stops_first None b TooDeep h = refl
-stops_first (Some x) b TooDeep h = absurd cc
-
 pub stops_later : (a b : Text) (e : PartStop) → Stops b e → Stops (joined a b) e
 stops_later a b NoMemory h = tt
 stops_later None b TooDeep h = refl

@@ -105,10 +105,6 @@ is_before n (Some y) (Ok z) x e = (y, z, refl, refl, cc)
 is_before n (Some y) (Err m) x e = absurd cc
 is_before n None r x e = absurd cc
 
-line_end : (at : ℕ) (more : List ℕ) → tokens false at (10 ∷ more) ≡ tokens false (at + 1) more
-unfolding tokens
-line_end at more = refl
-
 lines_read : (names : List (List ℕ)) (es ws : List Written) → names ≡ names_in (es ++ ws) → AreNamed (es ++ ws) → AreScopedOver es ws → (n : ℕ) (x : List ℕ) → lines_text names n ws ≡ Ok x
     → IsUtf8 x × ((at : ℕ) → ReadsItems Stands 1023 (with_items es []) (tokens false at x) ws)
 unfolding tokens
