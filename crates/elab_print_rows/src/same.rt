@@ -30,6 +30,17 @@ fn same_pure(levels: u32, tree: &EPure, read: &Pure) -> bool {
     }
 }
 
+/// Whether both sides are the same.
+fn same_pures(levels: u32, a: &EPure, p: &Pure, b: &EPure, q: &Pure) -> bool {
+    same_pure(levels, a, p) && same_pure(levels, b, q)
+}
+
+/// Whether both guides are the same.
+#[cycle(guide)]
+fn same_guides(levels: u32, a: &EGuide, p: &Guide, b: &EGuide, q: &Guide) -> bool {
+    same_guide(levels, a, p) && same_guide(levels, b, q)
+}
+
 #[cycle(guide)]
 fn same_guide(levels: u32, tree: &EGuide, read: &Guide) -> bool {
     if levels == 0 {
@@ -39,12 +50,8 @@ fn same_guide(levels: u32, tree: &EGuide, read: &Guide) -> bool {
     match (tree.form(), read.form()) {
         (EGuideForm::Var(i), GuideForm::Var(j)) => i == j,
         (EGuideForm::Name(i), GuideForm::Name(j)) => i == j,
-        (EGuideForm::Pi(a, b), GuideForm::Pi(p, q)) => {
-            same_guide(below, a, p) && same_guide(below, b, q)
-        }
-        (EGuideForm::All(a, b), GuideForm::All(p, q)) => {
-            same_guide(below, a, p) && same_guide(below, b, q)
-        }
+        (EGuideForm::Pi(a, b), GuideForm::Pi(p, q)) => same_guides(below, a, p, b, q),
+        (EGuideForm::All(a, b), GuideForm::All(p, q)) => same_guides(below, a, p, b, q),
         (EGuideForm::Allt(a, b), GuideForm::Allt(p, q)) => {
             same_guide_kind(below, a, p) && same_guide(below, b, q)
         }
@@ -53,15 +60,9 @@ fn same_guide(levels: u32, tree: &EGuide, read: &Guide) -> bool {
         (EGuideForm::At(a, b), GuideForm::At(p, q)) => {
             same_guide(below, a, p) && same_pure(below, b, q)
         }
-        (EGuideForm::On(a, b), GuideForm::On(p, q)) => {
-            same_guide(below, a, p) && same_guide(below, b, q)
-        }
-        (EGuideForm::Iota(a, b), GuideForm::Iota(p, q)) => {
-            same_guide(below, a, p) && same_guide(below, b, q)
-        }
-        (EGuideForm::Eq(a, b), GuideForm::Eq(p, q)) => {
-            same_pure(below, a, p) && same_pure(below, b, q)
-        }
+        (EGuideForm::On(a, b), GuideForm::On(p, q)) => same_guides(below, a, p, b, q),
+        (EGuideForm::Iota(a, b), GuideForm::Iota(p, q)) => same_guides(below, a, p, b, q),
+        (EGuideForm::Eq(a, b), GuideForm::Eq(p, q)) => same_pures(below, a, p, b, q),
         _ => false,
     }
 }
@@ -84,6 +85,30 @@ fn same_guide_kind(levels: u32, tree: &EGuideKind, read: &GuideKind) -> bool {
     }
 }
 
+/// Whether both terms are the same.
+#[cycle(term)]
+fn same_terms(levels: u32, a: &ETerm, p: &Term, b: &ETerm, q: &Term) -> bool {
+    same_term(levels, a, p) && same_term(levels, b, q)
+}
+
+/// Whether the type and the term are the same.
+#[cycle(term)]
+fn same_typed(levels: u32, a: &EType, p: &Ty, b: &ETerm, q: &Term) -> bool {
+    same_type(levels, a, p) && same_term(levels, b, q)
+}
+
+/// Whether both types are the same.
+#[cycle(term)]
+fn same_types(levels: u32, a: &EType, p: &Ty, b: &EType, q: &Ty) -> bool {
+    same_type(levels, a, p) && same_type(levels, b, q)
+}
+
+/// Whether the kind and the type are the same.
+#[cycle(term)]
+fn same_over_kind(levels: u32, a: &EKind, p: &Kind, b: &EType, q: &Ty) -> bool {
+    same_kind(levels, a, p) && same_type(levels, b, q)
+}
+
 #[cycle(term)]
 fn same_term(levels: u32, tree: &ETerm, read: &Term) -> bool {
     if levels == 0 {
@@ -93,44 +118,27 @@ fn same_term(levels: u32, tree: &ETerm, read: &Term) -> bool {
     match (tree.form(), read.form()) {
         (ETermForm::Var(i), TermForm::Var(j)) => i == j,
         (ETermForm::Name(i), TermForm::Name(j)) => i == j,
-        (ETermForm::Lam(a, b), TermForm::Lam(p, q)) => {
-            same_type(below, a, p) && same_term(below, b, q)
-        }
-        (ETermForm::Elam(a, b), TermForm::Elam(p, q)) => {
-            same_type(below, a, p) && same_term(below, b, q)
-        }
+        (ETermForm::Lam(a, b), TermForm::Lam(p, q)) => same_typed(below, a, p, b, q),
+        (ETermForm::Elam(a, b), TermForm::Elam(p, q)) => same_typed(below, a, p, b, q),
         (ETermForm::Xlam(a, b), TermForm::Xlam(p, q)) => {
             same_kind(below, a, p) && same_term(below, b, q)
         }
-        (ETermForm::App(a, b), TermForm::App(p, q)) => {
-            same_term(below, a, p) && same_term(below, b, q)
-        }
-        (ETermForm::Eapp(a, b), TermForm::Eapp(p, q)) => {
-            same_term(below, a, p) && same_term(below, b, q)
-        }
-        (ETermForm::Tapp(a, b), TermForm::Tapp(p, q)) => {
-            same_term(below, a, p) && same_type(below, b, q)
-        }
+        (ETermForm::App(a, b), TermForm::App(p, q)) => same_terms(below, a, p, b, q),
+        (ETermForm::Eapp(a, b), TermForm::Eapp(p, q)) => same_terms(below, a, p, b, q),
+        (ETermForm::Tapp(a, b), TermForm::Tapp(p, q)) => same_typed(below, b, q, a, p),
         (ETermForm::Pair(a, b, c), TermForm::Pair(p, q, r)) => {
-            same_term(below, a, p) && same_term(below, b, q) && same_type(below, c, r)
+            same_terms(below, a, p, b, q) && same_type(below, c, r)
         }
         (ETermForm::Fst(a), TermForm::Fst(p)) => same_term(below, a, p),
         (ETermForm::Snd(a), TermForm::Snd(p)) => same_term(below, a, p),
-        (ETermForm::Beta(a, b), TermForm::Beta(p, q)) => {
-            same_pure(below, a, p) && same_pure(below, b, q)
-        }
+        (ETermForm::Beta(a, b), TermForm::Beta(p, q)) => same_pures(below, a, p, b, q),
         (ETermForm::Rho(a, b, c, d), TermForm::Rho(p, q, r, s)) => {
-            same_term(below, a, p)
-                && same_guide(below, b, q)
-                && same_type(below, c, r)
-                && same_term(below, d, s)
+            same_typed(below, c, r, a, p) && same_guide(below, b, q) && same_term(below, d, s)
         }
         (ETermForm::Phi(a, b, c), TermForm::Phi(p, q, r)) => {
-            same_term(below, a, p) && same_term(below, b, q) && same_pure(below, c, r)
+            same_terms(below, a, p, b, q) && same_pure(below, c, r)
         }
-        (ETermForm::Delta(a, b), TermForm::Delta(p, q)) => {
-            same_type(below, a, p) && same_term(below, b, q)
-        }
+        (ETermForm::Delta(a, b), TermForm::Delta(p, q)) => same_typed(below, a, p, b, q),
         _ => false,
     }
 }
@@ -144,33 +152,15 @@ fn same_type(levels: u32, tree: &EType, read: &Ty) -> bool {
     match (tree.form(), read.form()) {
         (ETypeForm::Var(i), TyForm::Var(j)) => i == j,
         (ETypeForm::Name(i), TyForm::Name(j)) => i == j,
-        (ETypeForm::Pi(a, b), TyForm::Pi(p, q)) => {
-            same_type(below, a, p) && same_type(below, b, q)
-        }
-        (ETypeForm::All(a, b), TyForm::All(p, q)) => {
-            same_type(below, a, p) && same_type(below, b, q)
-        }
-        (ETypeForm::Allt(a, b), TyForm::Allt(p, q)) => {
-            same_kind(below, a, p) && same_type(below, b, q)
-        }
-        (ETypeForm::Tlam(a, b), TyForm::Tlam(p, q)) => {
-            same_type(below, a, p) && same_type(below, b, q)
-        }
-        (ETypeForm::Xtlam(a, b), TyForm::Xtlam(p, q)) => {
-            same_kind(below, a, p) && same_type(below, b, q)
-        }
-        (ETypeForm::At(a, b), TyForm::At(p, q)) => {
-            same_type(below, a, p) && same_term(below, b, q)
-        }
-        (ETypeForm::On(a, b), TyForm::On(p, q)) => {
-            same_type(below, a, p) && same_type(below, b, q)
-        }
-        (ETypeForm::Iota(a, b), TyForm::Iota(p, q)) => {
-            same_type(below, a, p) && same_type(below, b, q)
-        }
-        (ETypeForm::Eq(a, b), TyForm::Eq(p, q)) => {
-            same_pure(below, a, p) && same_pure(below, b, q)
-        }
+        (ETypeForm::Pi(a, b), TyForm::Pi(p, q)) => same_types(below, a, p, b, q),
+        (ETypeForm::All(a, b), TyForm::All(p, q)) => same_types(below, a, p, b, q),
+        (ETypeForm::Allt(a, b), TyForm::Allt(p, q)) => same_over_kind(below, a, p, b, q),
+        (ETypeForm::Tlam(a, b), TyForm::Tlam(p, q)) => same_types(below, a, p, b, q),
+        (ETypeForm::Xtlam(a, b), TyForm::Xtlam(p, q)) => same_over_kind(below, a, p, b, q),
+        (ETypeForm::At(a, b), TyForm::At(p, q)) => same_typed(below, a, p, b, q),
+        (ETypeForm::On(a, b), TyForm::On(p, q)) => same_types(below, a, p, b, q),
+        (ETypeForm::Iota(a, b), TyForm::Iota(p, q)) => same_types(below, a, p, b, q),
+        (ETypeForm::Eq(a, b), TyForm::Eq(p, q)) => same_pures(below, a, p, b, q),
         _ => false,
     }
 }
