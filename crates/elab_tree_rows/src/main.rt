@@ -7,6 +7,7 @@
 
 mod calls;
 mod deep;
+mod forms;
 mod guides;
 mod items;
 mod page;
@@ -27,6 +28,7 @@ fn main(rt: HostRuntime) -> io::Result<()> {
     let mut page = Page::new(rt.alloc());
     puts::lines(&mut page, rt.alloc());
     rows::lines(&mut page, rt.alloc());
+    forms::lines(&mut page, rt.alloc());
     deep::lines(&mut page, rt.alloc());
     items::lines(&mut page, rt.alloc());
     print!(rt; "{}", page.text())?;

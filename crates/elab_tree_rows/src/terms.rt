@@ -28,6 +28,27 @@ pub(crate) fn app(alloc: Global, head: Made<ETerm>, arg: Made<ETerm>) -> Made<ET
     ETerm::app(alloc, &head?, &arg?)
 }
 
+pub(crate) fn eapp(alloc: Global, head: Made<ETerm>, arg: Made<ETerm>) -> Made<ETerm> {
+    ETerm::eapp(alloc, &head?, &arg?)
+}
+
+pub(crate) fn pair(
+    alloc: Global,
+    left: Made<ETerm>,
+    right: Made<ETerm>,
+    ty: Made<EType>,
+) -> Made<ETerm> {
+    ETerm::pair(alloc, &left?, &right?, &ty?)
+}
+
+pub(crate) fn snd(alloc: Global, part: Made<ETerm>) -> Made<ETerm> {
+    ETerm::snd(alloc, &part?)
+}
+
+pub(crate) fn delta(alloc: Global, ty: Made<EType>, proof: Made<ETerm>) -> Made<ETerm> {
+    ETerm::delta(alloc, &ty?, &proof?)
+}
+
 pub(crate) fn tapp(alloc: Global, head: Made<ETerm>, arg: Made<EType>) -> Made<ETerm> {
     ETerm::tapp(alloc, &head?, &arg?)
 }

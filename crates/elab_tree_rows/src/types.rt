@@ -7,6 +7,30 @@ pub(crate) fn pi(alloc: Global, domain: Made<EType>, part: Made<EType>) -> Made<
     EType::pi(alloc, &domain?, &part?)
 }
 
+pub(crate) fn all(alloc: Global, domain: Made<EType>, part: Made<EType>) -> Made<EType> {
+    EType::all(alloc, &domain?, &part?)
+}
+
+pub(crate) fn allt(alloc: Global, domain: Made<EKind>, part: Made<EType>) -> Made<EType> {
+    EType::allt(alloc, &domain?, &part?)
+}
+
+pub(crate) fn xtlam(alloc: Global, domain: Made<EKind>, part: Made<EType>) -> Made<EType> {
+    EType::xtlam(alloc, &domain?, &part?)
+}
+
+pub(crate) fn on(alloc: Global, head: Made<EType>, arg: Made<EType>) -> Made<EType> {
+    EType::on(alloc, &head?, &arg?)
+}
+
+pub(crate) fn iota(alloc: Global, left: Made<EType>, right: Made<EType>) -> Made<EType> {
+    EType::iota(alloc, &left?, &right?)
+}
+
+pub(crate) fn kpit(alloc: Global, domain: Made<EKind>, part: Made<EKind>) -> Made<EKind> {
+    EKind::kpit(alloc, &domain?, &part?)
+}
+
 pub(crate) fn tlam(alloc: Global, domain: Made<EType>, part: Made<EType>) -> Made<EType> {
     EType::tlam(alloc, &domain?, &part?)
 }
