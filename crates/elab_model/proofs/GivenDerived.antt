@@ -1,0 +1,137 @@
+-- The laws of what is given: it has a derivation; an item, and a list of items in order.
+use Rattle.std.proofs.Common.{◌≡◌, ℕ, List, [], ◌∷◌, ◌++◌, refl, sym, ap, subst, arith}
+use Rattle.std.proofs.lemmas.List.{append_assoc, append-nil}
+use Rattle.cdle_model.specs.Trees.{Tree}
+use Rattle.cdle_model.specs.Forms.{star, Written, name_of}
+use Rattle.cdle_model.specs.Classes.{terms, types, kinds, item_sort, item_sorts, IsScopedOver, AreScopedOver, AreScoped}
+use Rattle.cdle_model.specs.Erasure.{erased}
+use Rattle.cdle_model.specs.Fitting.{entry_sorts, ItemHasErasures, HaveErasures}
+use Rattle.cdle_model.specs.Derivation.{Entry, a_term, a_type, a_kind, Has, converted, signature, IsNew, HasItem, DerivedAfter, AreDerived}
+use Rattle.cdle_model.proofs.Lists.{sorts-snoc}
+use Rattle.source_model.specs.Source.{data_item}
+use Rattle.scope_model.specs.Scoped.{Scoped, ScopedItem}
+use Rattle.elab_model.specs.SourceErasure.{Encodings, source_erased}
+use Rattle.elab_model.specs.SourceClasses.{SourceFits}
+use Rattle.elab_model.specs.Questions.{Env, Finding, found, rejected, spent_at, too_deep, out_of_scope, answer}
+use Rattle.elab_model.specs.SoundTrees.{Sound}
+use Rattle.elab_model.specs.Soundness.{EnvSound, ContextSound, EncodingsFit, no_encodings}
+use Rattle.elab_model.specs.Derived.{erased_context, ContextDerived}
+use Rattle.elab_model.specs.Spines.{Typed}
+use Rattle.elab_model.specs.Rules.{infer, check, term, type, kind}
+use Rattle.elab_model.specs.ScopedForms.{s_def, s_type}
+use Rattle.elab_model.specs.Items.{ErasesTo, EraseTo, SourceItemFits, source_sort, source_name, item_of_source, IsFresh, names_of, with_item, behind, by_item, items_of_source, SourceItemsFit, NamesDiffer}
+use Rattle.elab_model.proofs.Ensures.{Ensures, ensured, ensures-then}
+use Rattle.elab_model.proofs.SoundSpines.{IsLike}
+use Rattle.elab_model.proofs.SoundRules.{term-sound, kinded-sound, kind-sound}
+use Rattle.elab_model.proofs.GivenSound.{like-equal, fit-none}
+use Rattle.elab_model.proofs.DerivedSpines.{KindedHas}
+use Rattle.elab_model.proofs.DerivedRules.{T, U, K, N, infers, checks, term-has, kinded-has, kind-has, both-terms, both-kinded, both-kinds}
+
+module _ (e : Env) (f : Encodings) (g : EnvSound e) (v : AreDerived e.items) (w : EncodingsFit (item_sorts e.items) f) (R : Tree → Tree → Type 0) (like : IsLike f R) where
+  pub inferred-has : (c : List Entry) (t : Scoped) → ContextSound (item_sorts e.items) c → ContextDerived (signature e.items) c → SourceFits (entry_sorts c) (item_sorts e.items) terms t → (n : ℕ) (x : Typed) → answer e n (infer e f c t (term e f c t)) ≡ found x
+      → Has (signature e.items) a_term (erased_context c) x.0 (erased x.1) × Has (signature e.items) a_type (erased_context c) x.1 star
+  inferred-has c t hc hd h n x i = (ensured e n (T e g v f w R like c (source_erased f t)) (infer e f c t (term e f c t)) x
+      (infers e g v f w R like c t (source_erased f t) (term e f c t) (both-terms e g v f w R like c (source_erased f t) (term e f c t) (term-sound e g f w R like c t hc h) (term-has e g v f w R like c t hc h))) i).1 hd
+
+  pub checked-has : (c : List Entry) (t : Scoped) (a : Tree) → ContextSound (item_sorts e.items) c → ContextDerived (signature e.items) c → SourceFits (entry_sorts c) (item_sorts e.items) terms t → Sound (item_sorts e.items) (entry_sorts c) types a
+      → Has (signature e.items) a_type (erased_context c) a star → (n : ℕ) (x : Tree) → answer e n (check e f c t (term e f c t) a) ≡ found x → Has (signature e.items) a_term (erased_context c) x (erased a)
+  checked-has c t a hc hd h ha ka n x i = (ensured e n (U e g v f w R like c (source_erased f t) a) (check e f c t (term e f c t) a) x
+      (checks e g v f w R like c t (source_erased f t) (term e f c t) a (both-terms e g v f w R like c (source_erased f t) (term e f c t) (term-sound e g f w R like c t hc h) (term-has e g v f w R like c t hc h)) ha) i).1 hd ka
+
+  pub kinded-is-derived : (c : List Entry) (t : Scoped) → ContextSound (item_sorts e.items) c → ContextDerived (signature e.items) c → SourceFits (entry_sorts c) (item_sorts e.items) types t → (n : ℕ) (x : Typed) → answer e n (type e f c t) ≡ found x
+      → Has (signature e.items) a_type (erased_context c) x.0 (erased x.1) × Has (signature e.items) a_kind (erased_context c) x.1 star
+  kinded-is-derived c t hc hd h n x i = ensured e n (λ x. ContextDerived (signature e.items) c → KindedHas e g v f R like c (ContextDerived (signature e.items) c) x) (type e f c t) x (kinded-has e g v f w R like c t hc h) i hd
+
+  pub kind-is-derived : (c : List Entry) (t : Scoped) → ContextSound (item_sorts e.items) c → ContextDerived (signature e.items) c → SourceFits (entry_sorts c) (item_sorts e.items) kinds t → (n : ℕ) (k : Tree) → answer e n (kind e f c t) ≡ found k
+      → Has (signature e.items) a_kind (erased_context c) k star
+  kind-is-derived c t hc hd h n k i = ensured e n (λ k. ContextDerived (signature e.items) c → Has (signature e.items) a_kind (erased_context c) k star) (kind e f c t) k (kind-has e g v f w R like c t hc h) i hd
+
+  -- what is known of an item that is given for a source item
+  pub record ItemGiven (i : ScopedItem) (x : Written) : Type 0 where
+    pub sort : item_sort x ≡ source_sort i
+    pub name : name_of x ≡ source_name i
+    pub over : IsScopedOver e.items x
+    pub erasures : ItemHasErasures x
+    pub derived : HasItem (signature e.items) x
+    pub erases : ErasesTo R f i x
+
+  item-ensured : (i : ScopedItem) → SourceItemFits (item_sorts e.items) i → Ensures e (ItemGiven i) (item_of_source e f i)
+  item-ensured (s_def s x a t) h = ensures-then e (K e g v f w R like [] (source_erased f a)) (ItemGiven (s_def s x a t)) (type e f [] a) _
+      (both-kinded e g v f w R like [] (source_erased f a) (type e f [] a) (kinded-sound e g f w R like [] a tt h.0) (kinded-has e g v f w R like [] a tt h.0))
+      (λ b hb j. let kb : Has (signature e.items) a_type [] b.0 star = converted (hb.1 tt).0 j in
+      ensures-then e (U e g v f w R like [] (source_erased f t) b.0) (ItemGiven (s_def s x a t)) (check e f [] t (term e f [] t) b.0) _
+      (checks e g v f w R like [] t (source_erased f t) (term e f [] t) b.0 (both-terms e g v f w R like [] (source_erased f t) (term e f [] t) (term-sound e g f w R like [] t tt h.1) (term-has e g v f w R like [] t tt h.1)) hb.0.0)
+      (λ u hu. record { sort = refl; name = refl; over = (hb.0.0.0, hu.0.0.0); erasures = (hb.0.0.1, hu.0.0.1); derived = (kb, hu.1 tt kb); erases = (hb.0.1, hu.0.1) }))
+  item-ensured (s_type s x k a) h = ensures-then e (N e g v f w R like [] (source_erased f k)) (ItemGiven (s_type s x k a)) (kind e f [] k) _
+      (both-kinds e g v f w R like [] (source_erased f k) (kind e f [] k) (kind-sound e g f w R like [] k tt h.0) (kind-has e g v f w R like [] k tt h.0))
+      (λ l hl. ensures-then e (K e g v f w R like [] (source_erased f a)) (ItemGiven (s_type s x k a)) (type e f [] a) _
+      (both-kinded e g v f w R like [] (source_erased f a) (type e f [] a) (kinded-sound e g f w R like [] a tt h.1) (kinded-has e g v f w R like [] a tt h.1))
+      (λ b hb j. record { sort = refl; name = refl; over = (hl.0.0.0, hb.0.0.0); erasures = (hl.0.0.1, hb.0.0.1); derived = (hl.1 tt, converted (hb.1 tt).0 j); erases = (hl.0.1, hb.0.1) }))
+  item-ensured (data_item s x ps cs) h = absurd h
+
+  pub item-given : (i : ScopedItem) → SourceItemFits (item_sorts e.items) i → (n : ℕ) (x : Written) → answer e n (item_of_source e f i) ≡ found x → ItemGiven i x
+  item-given i h n x j = ensured e n (ItemGiven i) (item_of_source e f i) x (item-ensured i h) j
+
+-- ---- a list of items
+
+over-snoc : (bs es : List Written) (w : Written) → AreScopedOver bs es → IsScopedOver (bs ++ es) w → AreScopedOver bs (es ++ (w ∷ []))
+over-snoc bs [] w h k = (rw (append-nil bs) at k, tt)
+over-snoc bs (e ∷ es) w h k = (h.0, over-snoc (bs ++ (e ∷ [])) es w h.1 (subst (λ z. IsScopedOver z w) (sym (append_assoc bs (e ∷ []) es)) k))
+
+erasures-snoc : (es : List Written) (w : Written) → HaveErasures es → ItemHasErasures w → HaveErasures (es ++ (w ∷ []))
+erasures-snoc [] w h k = (k, tt)
+erasures-snoc (e ∷ es) w h k = (h.0, erasures-snoc es w h.1 k)
+
+derived-snoc : (bs es : List Written) (w : Written) → DerivedAfter bs es → IsNew (name_of w) (bs ++ es) → HasItem (signature (bs ++ es)) w → DerivedAfter bs (es ++ (w ∷ []))
+derived-snoc bs [] w h k l = (rw (append-nil bs) at k, rw (append-nil bs) at l, tt)
+derived-snoc bs (e ∷ es) w h k l =
+    (h.0, h.1, derived-snoc (bs ++ (e ∷ [])) es w h.2 (subst (λ z. IsNew (name_of w) z) (sym (append_assoc bs (e ∷ []) es)) k) (subst (λ z. HasItem (signature z) w) (sym (append_assoc bs (e ∷ []) es)) l))
+
+new-fresh : (x : List ℕ) (es : List Written) → IsFresh x (names_of es) → IsNew x es
+new-fresh x [] h = tt
+new-fresh x (e ∷ es) h = (h.0, new-fresh x es h.1)
+
+names-snoc : (es : List Written) (w : Written) → names_of (es ++ (w ∷ [])) ≡ names_of es ++ (name_of w ∷ [])
+names-snoc [] w = refl
+names-snoc (e ∷ es) w = ap (◌∷◌ (name_of e)) (names-snoc es w)
+
+-- what is known of the items so far with those that are given
+pub record ItemsGiven (es : List Written) (is : List ScopedItem) (ws : List Written) : Type 0 where
+  pub items : AreScoped (es ++ ws)
+  pub erasures : HaveErasures (es ++ ws)
+  pub derived : AreDerived (es ++ ws)
+  pub erase : EraseTo (λ a b. a ≡ b) no_encodings is ws
+
+by_item-is : (x : Finding Written) (k : Written → Finding (List Written)) (ws : List Written) → by_item x k ≡ found ws → (w : Written) × (x ≡ found w) × (k w ≡ found ws)
+by_item-is (found w) k ws h = (w, refl, h)
+by_item-is (rejected p c) k ws h = absurd (grind arith)
+by_item-is (spent_at p) k ws h = absurd (grind arith)
+by_item-is (too_deep p) k ws h = absurd (grind arith)
+by_item-is out_of_scope k ws h = absurd (grind arith)
+
+behind-is : (w : Written) (r : Finding (List Written)) (ws : List Written) → behind w r ≡ found ws → (us : List Written) × (r ≡ found us) × (ws ≡ w ∷ us)
+behind-is w (found us) ws h = (us, refl, grind arith)
+behind-is w (rejected p c) ws h = absurd (grind arith)
+behind-is w (spent_at p) ws h = absurd (grind arith)
+behind-is w (too_deep p) ws h = absurd (grind arith)
+behind-is w out_of_scope ws h = absurd (grind arith)
+
+pub items-given : (is : List ScopedItem) (n : ℕ) (e : Env) → EnvSound e → AreDerived e.items → SourceItemsFit (item_sorts e.items) is → NamesDiffer (names_of e.items) is → (ws : List Written) → items_of_source n e no_encodings is ≡ found ws → ItemsGiven e.items is ws
+items-given [] n e g v h d ws i =
+    let j : [] ≡ ws = grind arith in
+    rw (← j) (record { items = subst AreScoped (sym (append-nil e.items)) g.items; erasures = subst HaveErasures (sym (append-nil e.items)) g.erasures; derived = subst AreDerived (sym (append-nil e.items)) v; erase = tt })
+items-given (s ∷ is) n e g v h d ws i =
+    let (w, x, y) = by_item-is (answer e n (item_of_source e no_encodings s)) _ ws i in
+    let (us, z, o) = behind-is w (items_of_source n (with_item e w) no_encodings is) ws y in
+    let k = item-given e no_encodings g v (fit-none e) (λ a b. a ≡ b) like-equal s h.0 n w x in
+    let g' : EnvSound (with_item e w) = record { items = over-snoc [] e.items w g.items k.over; erasures = erasures-snoc e.items w g.erasures k.erasures } in
+    let v' : AreDerived (e.items ++ (w ∷ [])) = derived-snoc [] e.items w v (rw k.name (new-fresh (source_name s) e.items d.0)) k.derived in
+    let h' : SourceItemsFit (item_sorts (e.items ++ (w ∷ []))) is = rw (sorts-snoc e.items w, k.sort) h.1 in
+    let d' : NamesDiffer (names_of (e.items ++ (w ∷ []))) is = rw (names-snoc e.items w, k.name) d.1 in
+    let r = items-given is n (with_item e w) g' v' h' d' us z in
+    rw o (record {
+      items = subst AreScoped (append_assoc e.items (w ∷ []) us) r.items;
+      erasures = subst HaveErasures (append_assoc e.items (w ∷ []) us) r.erasures;
+      derived = subst AreDerived (append_assoc e.items (w ∷ []) us) r.derived;
+      erase = (k.erases, r.erase);
+    })
