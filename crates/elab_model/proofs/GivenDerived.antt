@@ -19,7 +19,7 @@ use Rattle.elab_model.specs.Derived.{erased_context, ContextDerived}
 use Rattle.elab_model.specs.Spines.{Typed}
 use Rattle.elab_model.specs.Rules.{infer, check, term, type, kind}
 use Rattle.elab_model.specs.ScopedForms.{s_def, s_type}
-use Rattle.elab_model.specs.Items.{ErasesTo, EraseTo, SourceItemFits, source_sort, source_name, item_of_source, IsFresh, names_of, with_item, behind, by_item, items_of_source, SourceItemsFit, NamesDiffer}
+use Rattle.elab_model.specs.Items.{ErasesTo, EraseTo, SourceItemFits, source_sort, source_name, item_of_source, IsFresh, names_of, with_items, behind, found_then, items_of_source, IsItemOf, SourceItemsFit, NamesDiffer}
 use Rattle.elab_model.proofs.Ensures.{Ensures, ensured, ensures-then}
 use Rattle.elab_model.proofs.SoundSpines.{IsLike}
 use Rattle.elab_model.proofs.SoundRules.{term-sound, kinded-sound, kind-sound}
@@ -46,31 +46,22 @@ module _ (e : Env) (f : Encodings) (g : EnvSound e) (v : AreDerived e.items) (w 
       → Has (signature e.items) a_kind (erased_context c) k star
   kind-is-derived c t hc hd h n k i = ensured e n (λ k. ContextDerived (signature e.items) c → Has (signature e.items) a_kind (erased_context c) k star) (kind e f c t) k (kind-has e g v f w R like c t hc h) i hd
 
-  -- what is known of an item that is given for a source item
-  pub record ItemGiven (i : ScopedItem) (x : Written) : Type 0 where
-    pub sort : item_sort x ≡ source_sort i
-    pub name : name_of x ≡ source_name i
-    pub over : IsScopedOver e.items x
-    pub erasures : ItemHasErasures x
-    pub derived : HasItem (signature e.items) x
-    pub erases : ErasesTo R f i x
-
-  item-ensured : (i : ScopedItem) → SourceItemFits (item_sorts e.items) i → Ensures e (ItemGiven i) (item_of_source e f i)
-  item-ensured (s_def s x a t) h = ensures-then e (K e g v f w R like [] (source_erased f a)) (ItemGiven (s_def s x a t)) (type e f [] a) _
+  item-ensured : (i : ScopedItem) → SourceItemFits (item_sorts e.items) i → Ensures e (IsItemOf R e f i) (item_of_source e f i)
+  item-ensured (s_def s x a t) h = ensures-then e (K e g v f w R like [] (source_erased f a)) (IsItemOf R e f (s_def s x a t)) (type e f [] a) _
       (both-kinded e g v f w R like [] (source_erased f a) (type e f [] a) (kinded-sound e g f w R like [] a tt h.0) (kinded-has e g v f w R like [] a tt h.0))
       (λ b hb j. let kb : Has (signature e.items) a_type [] b.0 star = converted (hb.1 tt).0 j in
-      ensures-then e (U e g v f w R like [] (source_erased f t) b.0) (ItemGiven (s_def s x a t)) (check e f [] t (term e f [] t) b.0) _
+      ensures-then e (U e g v f w R like [] (source_erased f t) b.0) (IsItemOf R e f (s_def s x a t)) (check e f [] t (term e f [] t) b.0) _
       (checks e g v f w R like [] t (source_erased f t) (term e f [] t) b.0 (both-terms e g v f w R like [] (source_erased f t) (term e f [] t) (term-sound e g f w R like [] t tt h.1) (term-has e g v f w R like [] t tt h.1)) hb.0.0)
-      (λ u hu. record { sort = refl; name = refl; over = (hb.0.0.0, hu.0.0.0); erasures = (hb.0.0.1, hu.0.0.1); derived = (kb, hu.1 tt kb); erases = (hb.0.1, hu.0.1) }))
-  item-ensured (s_type s x k a) h = ensures-then e (N e g v f w R like [] (source_erased f k)) (ItemGiven (s_type s x k a)) (kind e f [] k) _
+      (λ u hu. record { sort = refl; name = refl; scoped = (hb.0.0.0, hu.0.0.0); erasures = (hb.0.0.1, hu.0.0.1); derived = (kb, hu.1 tt kb); erases = (hb.0.1, hu.0.1) }))
+  item-ensured (s_type s x k a) h = ensures-then e (N e g v f w R like [] (source_erased f k)) (IsItemOf R e f (s_type s x k a)) (kind e f [] k) _
       (both-kinds e g v f w R like [] (source_erased f k) (kind e f [] k) (kind-sound e g f w R like [] k tt h.0) (kind-has e g v f w R like [] k tt h.0))
-      (λ l hl. ensures-then e (K e g v f w R like [] (source_erased f a)) (ItemGiven (s_type s x k a)) (type e f [] a) _
+      (λ l hl. ensures-then e (K e g v f w R like [] (source_erased f a)) (IsItemOf R e f (s_type s x k a)) (type e f [] a) _
       (both-kinded e g v f w R like [] (source_erased f a) (type e f [] a) (kinded-sound e g f w R like [] a tt h.1) (kinded-has e g v f w R like [] a tt h.1))
-      (λ b hb j. record { sort = refl; name = refl; over = (hl.0.0.0, hb.0.0.0); erasures = (hl.0.0.1, hb.0.0.1); derived = (hl.1 tt, converted (hb.1 tt).0 j); erases = (hl.0.1, hb.0.1) }))
+      (λ b hb j. record { sort = refl; name = refl; scoped = (hl.0.0.0, hb.0.0.0); erasures = (hl.0.0.1, hb.0.0.1); derived = (hl.1 tt, converted (hb.1 tt).0 j); erases = (hl.0.1, hb.0.1) }))
   item-ensured (data_item s x ps cs) h = absurd h
 
-  pub item-given : (i : ScopedItem) → SourceItemFits (item_sorts e.items) i → (n : ℕ) (x : Written) → answer e n (item_of_source e f i) ≡ found x → ItemGiven i x
-  item-given i h n x j = ensured e n (ItemGiven i) (item_of_source e f i) x (item-ensured i h) j
+  pub item-given : (i : ScopedItem) → SourceItemFits (item_sorts e.items) i → (n : ℕ) (x : Written) → answer e n (item_of_source e f i) ≡ found x → IsItemOf R e f i x
+  item-given i h n x j = ensured e n (IsItemOf R e f i) (item_of_source e f i) x (item-ensured i h) j
 
 -- ---- a list of items
 
@@ -102,33 +93,33 @@ pub record ItemsGiven (es : List Written) (is : List ScopedItem) (ws : List Writ
   pub derived : AreDerived (es ++ ws)
   pub erase : EraseTo (λ a b. a ≡ b) no_encodings is ws
 
-by_item-is : (x : Finding Written) (k : Written → Finding (List Written)) (ws : List Written) → by_item x k ≡ found ws → (w : Written) × (x ≡ found w) × (k w ≡ found ws)
-by_item-is (found w) k ws h = (w, refl, h)
-by_item-is (rejected p c) k ws h = absurd (grind arith)
-by_item-is (spent_at p) k ws h = absurd (grind arith)
-by_item-is (too_deep p) k ws h = absurd (grind arith)
-by_item-is out_of_scope k ws h = absurd (grind arith)
+found_then-is : {A B : Type 0} (x : Finding A) (k : A → Finding B) (y : B) → found_then x k ≡ found y → (z : A) × (x ≡ found z) × (k z ≡ found y)
+found_then-is (found z) k y h = (z, refl, h)
+found_then-is (rejected p c) k y h = absurd (grind arith)
+found_then-is (spent_at p) k y h = absurd (grind arith)
+found_then-is (too_deep p) k y h = absurd (grind arith)
+found_then-is out_of_scope k y h = absurd (grind arith)
 
-behind-is : (w : Written) (r : Finding (List Written)) (ws : List Written) → behind w r ≡ found ws → (us : List Written) × (r ≡ found us) × (ws ≡ w ∷ us)
-behind-is w (found us) ws h = (us, refl, grind arith)
-behind-is w (rejected p c) ws h = absurd (grind arith)
-behind-is w (spent_at p) ws h = absurd (grind arith)
-behind-is w (too_deep p) ws h = absurd (grind arith)
-behind-is w out_of_scope ws h = absurd (grind arith)
+behind-is : (vs : List Written) (r : Finding (List Written)) (ws : List Written) → behind vs r ≡ found ws → (us : List Written) × (r ≡ found us) × (ws ≡ vs ++ us)
+behind-is vs (found us) ws h = (us, refl, grind arith)
+behind-is vs (rejected p c) ws h = absurd (grind arith)
+behind-is vs (spent_at p) ws h = absurd (grind arith)
+behind-is vs (too_deep p) ws h = absurd (grind arith)
+behind-is vs out_of_scope ws h = absurd (grind arith)
 
 pub items-given : (is : List ScopedItem) (n : ℕ) (e : Env) → EnvSound e → AreDerived e.items → SourceItemsFit (item_sorts e.items) is → NamesDiffer (names_of e.items) is → (ws : List Written) → items_of_source n e no_encodings is ≡ found ws → ItemsGiven e.items is ws
 items-given [] n e g v h d ws i =
     let j : [] ≡ ws = grind arith in
     rw (← j) (record { items = subst AreScoped (sym (append-nil e.items)) g.items; erasures = subst HaveErasures (sym (append-nil e.items)) g.erasures; derived = subst AreDerived (sym (append-nil e.items)) v; erase = tt })
 items-given (s ∷ is) n e g v h d ws i =
-    let (w, x, y) = by_item-is (answer e n (item_of_source e no_encodings s)) _ ws i in
-    let (us, z, o) = behind-is w (items_of_source n (with_item e w) no_encodings is) ws y in
+    let (w, x, y) = found_then-is (answer e n (item_of_source e no_encodings s)) _ ws i in
+    let (us, z, o) = behind-is (w ∷ []) (items_of_source n (with_items e (w ∷ [])) no_encodings is) ws y in
     let k = item-given e no_encodings g v (fit-none e) (λ a b. a ≡ b) like-equal s h.0 n w x in
-    let g' : EnvSound (with_item e w) = record { items = over-snoc [] e.items w g.items k.over; erasures = erasures-snoc e.items w g.erasures k.erasures } in
+    let g' : EnvSound (with_items e (w ∷ [])) = record { items = over-snoc [] e.items w g.items k.scoped; erasures = erasures-snoc e.items w g.erasures k.erasures } in
     let v' : AreDerived (e.items ++ (w ∷ [])) = derived-snoc [] e.items w v (rw k.name (new-fresh (source_name s) e.items d.0)) k.derived in
     let h' : SourceItemsFit (item_sorts (e.items ++ (w ∷ []))) is = rw (sorts-snoc e.items w, k.sort) h.1 in
     let d' : NamesDiffer (names_of (e.items ++ (w ∷ []))) is = rw (names-snoc e.items w, k.name) d.1 in
-    let r = items-given is n (with_item e w) g' v' h' d' us z in
+    let r = items-given is n (with_items e (w ∷ [])) g' v' h' d' us z in
     rw o (record {
       items = subst AreScoped (append_assoc e.items (w ∷ []) us) r.items;
       erasures = subst HaveErasures (append_assoc e.items (w ∷ []) us) r.erasures;

@@ -33,6 +33,7 @@ pub mod Safe
 pub mod SafeSpines
 pub mod SafeRules
 pub mod GivenSafe
+pub mod ModuleItems
 pub mod GivenDerived
 pub mod InstanceIs
 pub mod Examples

@@ -50,12 +50,13 @@ firm-answer e n m astray = refl
 firm-answer e n m (ask_same f p w a b q) = firm-verdict f p w _ _ _ _ (λ z i x. (i + m, compare_more (bodies (signature e.items)) n a b z i m x)) (firm-answer e n m q)
 firm-answer e n m (ask_head f p d a k) = firm-head f p _ _ _ _ (head-stays e d n m a) (λ b. firm-answer e n m (k b))
 
+-- what is not spent stays
+pub firm-stays : {A : Type 0} (x y r : Finding A) → Firm x y → x ≡ r → ((p : Span) → r ≡ spent_at p → ⊥) → y ≡ r
+firm-stays (found z) y r f i h = sym f ∙ i
+firm-stays (rejected p w) y r f i h = sym f ∙ i
+firm-stays (spent_at p) y r f i h = absurd (h p (sym i))
+firm-stays (too_deep p) y r f i h = sym f ∙ i
+firm-stays out_of_scope y r f i h = sym f ∙ i
+
 pub answer-stays : {A : Type 0} (e : Env) (n m : ℕ) (q : Questions A) (r : Finding A) → answer e n q ≡ r → ((p : Span) → r ≡ spent_at p → ⊥) → answer e (n + m) q ≡ r
-answer-stays e n m q r x h = by_finding (answer e n q) x (firm-answer e n m q)
-  where
-    by_finding : (s : Finding _) → s ≡ r → Firm s (answer e (n + m) q) → answer e (n + m) q ≡ r
-    by_finding (found y) i f = sym f ∙ i
-    by_finding (rejected p w) i f = sym f ∙ i
-    by_finding (spent_at p) i f = absurd (h p (sym i))
-    by_finding (too_deep y) i f = sym f ∙ i
-    by_finding out_of_scope i f = sym f ∙ i
+answer-stays e n m q r x h = firm-stays (answer e n q) (answer e (n + m) q) r (firm-answer e n m q) x h

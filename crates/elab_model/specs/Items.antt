@@ -2,7 +2,9 @@
 use Rattle.std.specs.Prelude.{◌≡◌, ℕ, List, [], ◌∷◌, ◌++◌}
 use Rattle.cdle_model.specs.declared.grammar.Sort.{Sort}
 use Rattle.cdle_model.specs.declared.grammar.Sort.TheVariants.{OfTerm, OfType}
-use Rattle.cdle_model.specs.Classes.{terms, types, kinds}
+use Rattle.cdle_model.specs.Classes.{terms, types, kinds, item_sort, IsScopedOver}
+use Rattle.cdle_model.specs.Fitting.{ItemHasErasures}
+use Rattle.cdle_model.specs.Derivation.{HasItem, signature}
 use Rattle.cdle_model.specs.Trees.{Tree}
 use Rattle.cdle_model.specs.Erasure.{erased}
 use Rattle.cdle_model.specs.Forms.{Written, def_item, type_item, name_of}
@@ -38,6 +40,46 @@ item_of_source e f (s_def s x a t) = star_then (span_of a) a (type e f [] a) (λ
 item_of_source e f (s_type s x k a) = then (kind e f [] k) (λ k. then (type e f [] a) (λ y. ask_same (span_of a) (span_of a) WantedKind (erased y.1) (erased k) (gives (type_item x k y.0))))
 item_of_source e f (data_item s x ps cs) = astray
 
+-- the items so far, with more behind them, none of them a datatype's name
+abbrev pub with_items : Env → List Written → Env
+with_items e ws = record { items = e.items ++ ws; is_data = e.is_data }
+
+-- what is found, and then the rest with it
+abbrev pub found_then : {A B : Type 0} → Finding A → (A → Finding B) → Finding B
+found_then (found x) k = k x
+found_then (rejected p c) k = rejected p c
+found_then (spent_at p) k = spent_at p
+found_then (too_deep p) k = too_deep p
+found_then out_of_scope k = out_of_scope
+
+-- what is found stands behind these
+abbrev pub behind : List Written → Finding (List Written) → Finding (List Written)
+behind ws (found us) = found (ws ++ us)
+behind ws r = r
+
+-- the items of a list in order, each over those before it
+abbrev pub items_of_source : ℕ → Env → Encodings → List ScopedItem → Finding (List Written)
+items_of_source n e f [] = found []
+items_of_source n e f (i ∷ is) = found_then (answer e n (item_of_source e f i)) (λ w. behind (w ∷ []) (items_of_source n (with_items e (w ∷ [])) f is))
+
+-- the items of modules one after the other
+abbrev pub items_of_modules : ℕ → Env → Encodings → List ScopedModule → Finding (List Written)
+items_of_modules n e f [] = found []
+items_of_modules n e f (m ∷ ms) = found_then (items_of_source n e f m.items) (λ ws. behind ws (items_of_modules n (with_items e ws) f ms))
+
+-- the definitions of modules as one list
+abbrev pub items_in : List ScopedModule → List ScopedItem
+items_in [] = []
+items_in (m ∷ ms) = m.items ++ items_in ms
+
+-- ---- what the laws ask of the source, and what they say of the items
+
+-- each item's parts are of their classes, over the items before it
+abbrev pub SourceItemsFit : List Sort → List ScopedItem → Type 0
+SourceItemsFit xs [] = Unit {0}
+SourceItemsFit xs (i ∷ is) = SourceItemFits xs i × SourceItemsFit (xs ++ (source_sort i ∷ [])) is
+
+-- the name is none of these
 abbrev pub IsFresh : List ℕ → List (List ℕ) → Type 0
 IsFresh x [] = Unit {0}
 IsFresh x (y ∷ ys) = (y ≡ x → ⊥) × IsFresh x ys
@@ -45,30 +87,6 @@ IsFresh x (y ∷ ys) = (y ≡ x → ⊥) × IsFresh x ys
 abbrev pub names_of : List Written → List (List ℕ)
 names_of [] = []
 names_of (w ∷ ws) = name_of w ∷ names_of ws
-
--- the items of a list in order, each over those before it (no datatypes so far)
-abbrev pub with_item : Env → Written → Env
-with_item e w = record { items = e.items ++ (w ∷ []); is_data = e.is_data }
-
-abbrev pub behind : Written → Finding (List Written) → Finding (List Written)
-behind w (found ws) = found (w ∷ ws)
-behind w r = r
-
-abbrev pub by_item : {A : Type 0} → Finding Written → (Written → Finding A) → Finding A
-by_item (found w) k = k w
-by_item (rejected p c) k = rejected p c
-by_item (spent_at p) k = spent_at p
-by_item (too_deep p) k = too_deep p
-by_item out_of_scope k = out_of_scope
-
-abbrev pub items_of_source : ℕ → Env → Encodings → List ScopedItem → Finding (List Written)
-items_of_source n e f [] = found []
-items_of_source n e f (i ∷ is) = by_item (answer e n (item_of_source e f i)) (λ w. behind w (items_of_source n (with_item e w) f is))
-
--- each item is over those before it
-abbrev pub SourceItemsFit : List Sort → List ScopedItem → Type 0
-SourceItemsFit xs [] = Unit {0}
-SourceItemsFit xs (i ∷ is) = SourceItemFits xs i × SourceItemsFit (xs ++ (source_sort i ∷ [])) is
 
 -- no name is an earlier item's
 abbrev pub NamesDiffer : List (List ℕ) → List ScopedItem → Type 0
@@ -86,7 +104,11 @@ EraseTo R f [] [] = Unit {0}
 EraseTo R f (i ∷ is) (w ∷ ws) = ErasesTo R f i w × EraseTo R f is ws
 EraseTo R f is ws = ⊥
 
--- the items of modules one after the other
-abbrev pub items_in : List ScopedModule → List ScopedItem
-items_in [] = []
-items_in (m ∷ ms) = m.items ++ items_in ms
+-- the item is one that may stand behind the items so far: it has the source's name and sort, is over them, has erasures and a derivation, and erases to the source
+pub record IsItemOf (R : Tree → Tree → Type 0) (e : Env) (f : Encodings) (i : ScopedItem) (w : Written) : Type 0 where
+  pub sort : item_sort w ≡ source_sort i
+  pub name : name_of w ≡ source_name i
+  pub scoped : IsScopedOver e.items w
+  pub erasures : ItemHasErasures w
+  pub derived : HasItem (signature e.items) w
+  pub erases : ErasesTo R f i w

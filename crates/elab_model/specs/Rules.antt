@@ -103,6 +103,7 @@ module _ (e : Env) (f : Encodings) where
   abbrev pub check : List Entry → Scoped → Asked → Tree → Questions Tree
   check c t q a = then (q (Some a) (span_of t)) (against e (span_of t) c a)
 
+  -- what is made of a spine's head
   abbrev pub started : Span → Made → Questions Spine
   started s (spine x) = gives x
   started s (inferred t a) = gives (starting s t a)
@@ -116,7 +117,7 @@ module _ (e : Env) (f : Encodings) where
   abbrev pub proof_then : {A : Type 0} → Span → List Entry → Scoped → Asked → (Tree → Tree → Tree → Questions A) → Questions A
   proof_then s c t q k = then (infer c t q) (λ x. equation_then s (span_of t) x.1 (k x.0))
 
-  -- what needs scope only
+  -- a pure position needs scope only; what is dropped is not looked at, and a part that is left out is `λx.x`
   abbrev pub erase : Scoped → Questions Tree
   erase (s_name s n) = limited s (name_erased f n)
   erase (s_lam s x a t) = then (erase t) (λ p. limited s (fn p))
@@ -151,67 +152,208 @@ module _ (e : Env) (f : Encodings) where
   erase t = astray
 
   abbrev mutual
-    -- terms: first where no type is asked for, then where one is
+    -- terms: first where no type is asked for, then where one is; the place is that of the spine that the term is or is the head of
     pub term : List Entry → Scoped → Option Tree → Span → Questions Made
+    -- a variable, a name: its type
     term c (s_name s n) g w = term_name s c n
+    -- `λ x : A . t`
     term c (s_lam s x a t) g w = by_goal g
-        (if_written a (star_then s a (type c a) (λ d. then (infer (term_of d ∷ c) t (term (term_of d ∷ c) t)) (λ r. gives_inferred s (lam d r.0) (pi d r.1)))) (rejects (letter s) AnnotationWanted))
-        (λ b. binder_then s (letter s) WantedFunction pi_of b (λ d b. if_annotated a (λ q. star_then s a (type c a) (λ d'. agrees_then s a d' d q))
-        (then (check (term_of d ∷ c) t (term (term_of d ∷ c) t) b) (λ t. gives_checked s (lam d t)))))
+        (if_written a
+            (star_then s a (type c a) (λ d.
+            then (infer (term_of d ∷ c) t (term (term_of d ∷ c) t)) (λ r.
+            gives_inferred s (lam d r.0) (pi d r.1))))
+            (rejects (letter s) AnnotationWanted))
+        (λ b. binder_then s (letter s) WantedFunction pi_of b (λ d b.
+            if_annotated a (λ q. star_then s a (type c a) (λ d'. agrees_then s a d' d q))
+            (then (check (term_of d ∷ c) t (term (term_of d ∷ c) t) b) (λ t.
+            gives_checked s (lam d t)))))
+    -- `Λ x : A . t`
     term c (s_elam s x a t) g w = by_goal g
-        (if_written a (star_then s a (type c a) (λ d. then (infer (term_of d ∷ c) t (term (term_of d ∷ c) t)) (λ r. unless_used (letter s) (erased r.0) (gives_inferred s (elam d r.0) (all d r.1))))) (rejects (letter s) AnnotationWanted))
-        (λ b. binder_then s (letter s) WantedFunction all_of b (λ d b. if_annotated a (λ q. star_then s a (type c a) (λ d'. agrees_then s a d' d q))
-        (then (check (term_of d ∷ c) t (term (term_of d ∷ c) t) b) (λ t. unless_used (letter s) (erased t) (gives_checked s (elam d t))))))
+        (if_written a
+            (star_then s a (type c a) (λ d.
+            then (infer (term_of d ∷ c) t (term (term_of d ∷ c) t)) (λ r.
+            unless_used (letter s) (erased r.0)
+            (gives_inferred s (elam d r.0) (all d r.1)))))
+            (rejects (letter s) AnnotationWanted))
+        (λ b. binder_then s (letter s) WantedFunction all_of b (λ d b.
+            if_annotated a (λ q. star_then s a (type c a) (λ d'. agrees_then s a d' d q))
+            (then (check (term_of d ∷ c) t (term (term_of d ∷ c) t) b) (λ t.
+            unless_used (letter s) (erased t)
+            (gives_checked s (elam d t))))))
+    -- `Λ X : κ . t`
     term c (s_xlam s x k t) g w = by_goal g
-        (if_written k (then (kind c k) (λ d. then (infer (type_of d ∷ c) t (term (type_of d ∷ c) t)) (λ r. unless_used (letter s) (erased r.0) (gives_inferred s (xlam d r.0) (allt d r.1))))) (rejects (letter s) AnnotationWanted))
-        (λ b. binder_then s (letter s) WantedFunction allt_of b (λ d b. if_annotated k (λ q. then (kind c k) (λ d'. agrees_then s k d' d q))
-        (then (check (type_of d ∷ c) t (term (type_of d ∷ c) t) b) (λ t. unless_used (letter s) (erased t) (gives_checked s (xlam d t))))))
-    term c (s_unclassed s x a t) g w = by_goal g (rejects (letter s) AnnotationWanted) (λ b. ask_head s (letter s) false b (λ h. either_product h
-        (λ d b. then (check (term_of d ∷ c) t (term (term_of d ∷ c) t) b) (λ t. unless_used (letter s) (erased t) (gives_checked s (elam d t))))
-        (λ d b. then (check (type_of d ∷ c) t (term (type_of d ∷ c) t) b) (λ t. unless_used (letter s) (erased t) (gives_checked s (xlam d t))))
-        (rejects (letter s) WantedFunction)))
+        (if_written k
+            (then (kind c k) (λ d.
+            then (infer (type_of d ∷ c) t (term (type_of d ∷ c) t)) (λ r.
+            unless_used (letter s) (erased r.0)
+            (gives_inferred s (xlam d r.0) (allt d r.1)))))
+            (rejects (letter s) AnnotationWanted))
+        (λ b. binder_then s (letter s) WantedFunction allt_of b (λ d b.
+            if_annotated k (λ q. then (kind c k) (λ d'. agrees_then s k d' d q))
+            (then (check (type_of d ∷ c) t (term (type_of d ∷ c) t) b) (λ t.
+            unless_used (letter s) (erased t)
+            (gives_checked s (xlam d t))))))
+    -- `Λ x . t` whose variable is not used: of the class that the head form asks for
+    term c (s_unclassed s x a t) g w = by_goal g
+        (rejects (letter s) AnnotationWanted)
+        (λ b. ask_head s (letter s) false b (λ h. either_product h
+            (λ d b.
+                then (check (term_of d ∷ c) t (term (term_of d ∷ c) t) b) (λ t.
+                unless_used (letter s) (erased t)
+                (gives_checked s (elam d t))))
+            (λ d b.
+                then (check (type_of d ∷ c) t (term (type_of d ∷ c) t) b) (λ t.
+                unless_used (letter s) (erased t)
+                (gives_checked s (xlam d t))))
+            (rejects (letter s) WantedFunction)))
+    -- spines: the head, and then an argument
     term c (s_app s t u) g w = head_then t (term c t) w (argument w pi_of app_of (span_of u) (infer c u (term c u)) (check c u (term c u)))
     term c (s_eapp s t u) g w = head_then t (term c t) w (argument w all_of eapp_of (span_of u) (infer c u (term c u)) (check c u (term c u)))
     term c (s_tapp s t a) g w = head_then t (term c t) w (type_argument w (span_of a) (type c a))
-    term c (s_pair s t u) g w = by_goal g (rejects (bracket s) AnnotationWanted) (λ a. binder_then s (bracket s) WantedIntersection iota_of a (λ a b. then (check c t (term c t) a) (λ t.
-        unless_deep s (put_written 0 t b) (then (check c u (term c u) (put_written 0 t b)) (λ u. ask_same s (bracket s) PartsDiffer (erased t) (erased u) (gives_checked s (pair t u b)))))))
-    term c (s_fst s t) g w = then (infer c t (term c t)) (λ x. binder_then s (span_of t) WantedIntersection iota_of x.1 (λ a b. gives_spine s (fst x.0) a))
-    term c (s_snd s t) g w = then (infer c t (term c t)) (λ x. binder_then s (span_of t) WantedIntersection iota_of x.1 (λ a b. gives_spine s (snd x.0) (put_written 0 (fst x.0) b)))
+    -- `[t, u]`
+    term c (s_pair s t u) g w = by_goal g
+        (rejects (bracket s) AnnotationWanted)
+        (λ a. binder_then s (bracket s) WantedIntersection iota_of a (λ a b.
+            then (check c t (term c t) a) (λ t.
+            unless_deep s (put_written 0 t b)
+            (then (check c u (term c u) (put_written 0 t b)) (λ u.
+            ask_same s (bracket s) PartsDiffer (erased t) (erased u)
+            (gives_checked s (pair t u b)))))))
+    -- `t.1`, `t.2`
+    term c (s_fst s t) g w =
+        then (infer c t (term c t)) (λ x.
+        binder_then s (span_of t) WantedIntersection iota_of x.1 (λ a b.
+        gives_spine s (fst x.0) a))
+    term c (s_snd s t) g w =
+        then (infer c t (term c t)) (λ x.
+        binder_then s (span_of t) WantedIntersection iota_of x.1 (λ a b.
+        gives_spine s (snd x.0) (put_written 0 (fst x.0) b)))
+    -- `β<x>{p}`; without `<x>` the side is the left one of the equation asked for
     term c (s_beta s x p) g w = if_written x
-        (then (erase x) (λ x. then (erase p) (λ k. gives_inferred s (beta x k) (eq x x))))
-        (by_goal g (rejects (letter s) AnnotationWanted) (λ a. equation_then s (letter s) a (λ x y. then (erase p) (λ k. ask_same s (letter s) SidesDiffer x y (gives_checked s (beta x k))))))
+        (then (erase x) (λ x.
+        then (erase p) (λ k.
+        gives_inferred s (beta x k) (eq x x))))
+        (by_goal g
+            (rejects (letter s) AnnotationWanted)
+            (λ a. equation_then s (letter s) a (λ x y.
+                then (erase p) (λ k.
+                ask_same s (letter s) SidesDiffer x y
+                (gives_checked s (beta x k))))))
+    -- `ρ q @ x . d - t`: where the guide is written as an equation, t is checked against it; else there is a type asked for, and t is inferred
     term c (s_rho s r x q d t) g w = proof_then s c q (term c q) (λ q x y. cond (is_equation d)
-        (then (erase d) (λ d. unless_deep s (put 0 x d) (ask_same s (letter s) SidesDiffer (erased (by_goal g (put 0 x d) (λ a. a))) (put 0 x d)
-        (unless_deep s (put 0 y d) (then (check c t (term c t) (put 0 y d)) (λ t. by_goal g (gives_inferred s (rho q d (put 0 x d) t) (put 0 x d)) (λ a. gives_checked s (rho q d a t))))))))
-        (by_goal g (rejects (letter s) AnnotationWanted) (λ a. then (erase d) (λ d. unless_deep s (put 0 x d) (ask_same s (letter s) SidesDiffer (erased a) (put 0 x d)
-        (then (infer c t (term c t)) (λ z. unless_deep s (put 0 y d) (ask_same s (span_of t) Mismatch (erased z.1) (put 0 y d) (gives_checked s (rho q d a z.0))))))))))
+        (then (erase d) (λ d.
+        unless_deep s (put 0 x d)
+        (ask_same s (letter s) SidesDiffer (erased (by_goal g (put 0 x d) (λ a. a))) (put 0 x d)
+        (unless_deep s (put 0 y d)
+        (then (check c t (term c t) (put 0 y d)) (λ t.
+        by_goal g
+            (gives_inferred s (rho q d (put 0 x d) t) (put 0 x d))
+            (λ a. gives_checked s (rho q d a t))))))))
+        (by_goal g
+            (rejects (letter s) AnnotationWanted)
+            (λ a.
+                then (erase d) (λ d.
+                unless_deep s (put 0 x d)
+                (ask_same s (letter s) SidesDiffer (erased a) (put 0 x d)
+                (then (infer c t (term c t)) (λ z.
+                unless_deep s (put 0 y d)
+                (ask_same s (span_of t) Mismatch (erased z.1) (put 0 y d)
+                (gives_checked s (rho q d a z.0))))))))))
+    -- `φ q - t { p }`
     term c (s_phi s r q t p) g w = proof_then s c q (term c q) (λ q x y. by_goal g
-        (then (infer c t (term c t)) (λ z. then (erase p) (λ k. ask_same s (letter s) SidesDiffer x (erased z.0) (ask_same s (letter s) SidesDiffer y k (gives_inferred s (phi q z.0 k) z.1)))))
-        (λ a. then (check c t (term c t) a) (λ t. then (erase p) (λ k. ask_same s (letter s) SidesDiffer x (erased t) (ask_same s (letter s) SidesDiffer y k (gives_checked s (phi q t k)))))))
+        (then (infer c t (term c t)) (λ z.
+        then (erase p) (λ k.
+        ask_same s (letter s) SidesDiffer x (erased z.0)
+        (ask_same s (letter s) SidesDiffer y k
+        (gives_inferred s (phi q z.0 k) z.1)))))
+        (λ a.
+            then (check c t (term c t) a) (λ t.
+            then (erase p) (λ k.
+            ask_same s (letter s) SidesDiffer x (erased t)
+            (ask_same s (letter s) SidesDiffer y k
+            (gives_checked s (phi q t k)))))))
+    -- `δ A - q`
     term c (s_delta s a q) g w = if_written a
-        (star_then s a (type c a) (λ a. proof_then s c q (term c q) (λ q x y. ask_same s (letter s) NotTheTwoBooleans x true_pure (ask_same s (letter s) NotTheTwoBooleans y false_pure (gives_inferred s (delta a q) a)))))
-        (by_goal g (rejects (letter s) AnnotationWanted) (λ a. proof_then s c q (term c q) (λ q x y. ask_same s (letter s) NotTheTwoBooleans x true_pure (ask_same s (letter s) NotTheTwoBooleans y false_pure (gives_checked s (delta a q))))))
-    term c (s_chi s a t) g w = star_then s a (type c a) (λ a. then (check c t (term c t) a) (λ t. gives_inferred s t a))
-    term c (s_flip s q) g w = proof_then s c q (term c q) (λ q x y. gives_inferred s (rho q (eq (shift 0 1 y) (var 0)) (eq y x) (beta y (erased q))) (eq y x))
+        (star_then s a (type c a) (λ a.
+        proof_then s c q (term c q) (λ q x y.
+        ask_same s (letter s) NotTheTwoBooleans x true_pure
+        (ask_same s (letter s) NotTheTwoBooleans y false_pure
+        (gives_inferred s (delta a q) a)))))
+        (by_goal g
+            (rejects (letter s) AnnotationWanted)
+            (λ a. proof_then s c q (term c q) (λ q x y.
+                ask_same s (letter s) NotTheTwoBooleans x true_pure
+                (ask_same s (letter s) NotTheTwoBooleans y false_pure
+                (gives_checked s (delta a q))))))
+    -- `χ A - t`
+    term c (s_chi s a t) g w =
+        star_then s a (type c a) (λ a.
+        then (check c t (term c t) a) (λ t.
+        gives_inferred s t a))
+    -- `ς q`, for `{x ≃ y}` as `ρ q @ z . {y ≃ z} - β<y>{|q|}`
+    term c (s_flip s q) g w = proof_then s c q (term c q) (λ q x y.
+        gives_inferred s (rho q (eq (shift 0 1 y) (var 0)) (eq y x) (beta y (erased q))) (eq y x))
     term c t g w = astray
 
     -- types, with their kinds
     pub type : List Entry → Scoped → Questions Typed
     type c (s_name s n) = type_name s c n
-    type c (s_pi s x a b) = star_then s a (type c a) (λ a. star_then s b (type (term_of a ∷ c) b) (λ b. gives_type s (pi a b) star))
-    type c (s_all s x a b) = star_then s a (type c a) (λ a. star_then s b (type (term_of a ∷ c) b) (λ b. gives_type s (all a b) star))
-    type c (s_iota s x a b) = star_then s a (type c a) (λ a. star_then s b (type (term_of a ∷ c) b) (λ b. gives_type s (iota a b) star))
-    type c (s_allt s x k b) = then (kind c k) (λ k. star_then s b (type (type_of k ∷ c) b) (λ b. gives_type s (allt k b) star))
-    type c (s_tlam s x a b) = star_then s a (type c a) (λ a. then (type (term_of a ∷ c) b) (λ y. gives_type s (tlam a y.0) (kpi a y.1)))
-    type c (s_xtlam s x k b) = then (kind c k) (λ k. then (type (type_of k ∷ c) b) (λ y. gives_type s (xtlam k y.0) (kpit k y.1)))
-    type c (s_at s a t) = then (type c a) (λ y. binder_parts kpi_of y.1 (λ b k. then (check c t (term c t) b) (λ t. gives_type s (at_ y.0 t) (put_written 0 t k))) (rejects (span_of a) WantedKind))
-    type c (s_on s a b) = then (type c a) (λ y. binder_parts kpit_of y.1 (λ k l. then (type c b) (λ z. ask_same s (span_of b) WantedKind (erased z.1) (erased k) (gives_type s (on y.0 z.0) (put_written 0 z.0 l)))) (rejects (span_of a) WantedKind))
-    type c (s_eq s t u) = then (erase t) (λ p. then (erase u) (λ q. gives_type s (eq p q) star))
+    -- `Π x : A . B`, `∀ x : A . B`, `ι x : A . B`, `∀ X : κ . B`: both have `★`
+    type c (s_pi s x a b) =
+        star_then s a (type c a) (λ a.
+        star_then s b (type (term_of a ∷ c) b) (λ b.
+        gives_type s (pi a b) star))
+    type c (s_all s x a b) =
+        star_then s a (type c a) (λ a.
+        star_then s b (type (term_of a ∷ c) b) (λ b.
+        gives_type s (all a b) star))
+    type c (s_iota s x a b) =
+        star_then s a (type c a) (λ a.
+        star_then s b (type (term_of a ∷ c) b) (λ b.
+        gives_type s (iota a b) star))
+    type c (s_allt s x k b) =
+        then (kind c k) (λ k.
+        star_then s b (type (type_of k ∷ c) b) (λ b.
+        gives_type s (allt k b) star))
+    -- `λ x : A . B`, `λ X : κ . B`
+    type c (s_tlam s x a b) =
+        star_then s a (type c a) (λ a.
+        then (type (term_of a ∷ c) b) (λ y.
+        gives_type s (tlam a y.0) (kpi a y.1)))
+    type c (s_xtlam s x k b) =
+        then (kind c k) (λ k.
+        then (type (type_of k ∷ c) b) (λ y.
+        gives_type s (xtlam k y.0) (kpit k y.1)))
+    -- `A t`, `A ·B`
+    type c (s_at s a t) =
+        then (type c a) (λ y. binder_parts kpi_of y.1
+            (λ b k.
+                then (check c t (term c t) b) (λ t.
+                gives_type s (at_ y.0 t) (put_written 0 t k)))
+            (rejects (span_of a) WantedKind))
+    type c (s_on s a b) =
+        then (type c a) (λ y. binder_parts kpit_of y.1
+            (λ k l.
+                then (type c b) (λ z.
+                ask_same s (span_of b) WantedKind (erased z.1) (erased k)
+                (gives_type s (on y.0 z.0) (put_written 0 z.0 l))))
+            (rejects (span_of a) WantedKind))
+    -- `{ t ≃ u }`
+    type c (s_eq s t u) =
+        then (erase t) (λ p.
+        then (erase u) (λ q.
+        gives_type s (eq p q) star))
     type c t = astray
 
     -- kinds
     pub kind : List Entry → Scoped → Questions Tree
     kind c (s_star s) = gives star
-    kind c (s_kpi s x a k) = star_then s a (type c a) (λ a. then (kind (term_of a ∷ c) k) (λ k. limited s (kpi a k)))
-    kind c (s_kpit s x k l) = then (kind c k) (λ k. then (kind (type_of k ∷ c) l) (λ l. limited s (kpit k l)))
+    kind c (s_kpi s x a k) =
+        star_then s a (type c a) (λ a.
+        then (kind (term_of a ∷ c) k) (λ k.
+        limited s (kpi a k)))
+    kind c (s_kpit s x k l) =
+        then (kind c k) (λ k.
+        then (kind (type_of k ∷ c) l) (λ l.
+        limited s (kpit k l)))
     kind c t = astray

@@ -2,16 +2,16 @@
 ghost use Rattle.cdle_model.specs.Classes.{AreScoped, item_sorts, kinds, terms, types};
 ghost use Rattle.cdle_model.specs.Derivation.{AreDerived, Entry, Has, Judgement, a_kind, a_term, a_type, bodies, signature};
 ghost use Rattle.cdle_model.specs.Erasure.{erased};
-ghost use Rattle.cdle_model.specs.Fitting.{entry_sorts};
+ghost use Rattle.cdle_model.specs.Fitting.{HaveErasures, entry_sorts};
 ghost use Rattle.cdle_model.specs.Forms.{Written, star};
 ghost use Rattle.cdle_model.specs.Steps.{Joined};
 ghost use Rattle.cdle_model.specs.Trees.{Tree, shift};
 ghost use Rattle.elab_model.specs.Derived.{ContextDerived, erased_context};
 ghost use Rattle.elab_model.specs.Instances.{IsInstance, Solution, instance};
-ghost use Rattle.elab_model.specs.Items.{EraseTo, NamesDiffer, SourceItemFits, SourceItemsFit, item_of_source, items_of_source, names_of};
+ghost use Rattle.elab_model.specs.Items.{EraseTo, IsItemOf, NamesDiffer, SourceItemFits, SourceItemsFit, item_of_source, items_in, items_of_modules, items_of_source, names_of};
 ghost use Rattle.elab_model.specs.Questions.{Env, Finding, answer, found, out_of_scope, spent_at};
 ghost use Rattle.elab_model.specs.Rules.{check, infer, kind, term, type};
-ghost use Rattle.scope_model.specs.Scoped.{Scoped, ScopedItem};
+ghost use Rattle.scope_model.specs.Scoped.{Scoped, ScopedItem, ScopedModule};
 ghost use Rattle.elab_model.specs.SoundTrees.{Sound};
 ghost use Rattle.elab_model.specs.Soundness.{AreEncodings, ContextSound, EncodingsFit, EnvSound, no_encodings};
 ghost use Rattle.source_model.specs.Source.{Span};
@@ -25,7 +25,10 @@ pub fn larger_budget_keeps_rules()
     ensures inferred { (e : Env) (f : Encodings) (c : List Entry) (t : Scoped) (n more : ℕ) (r : Finding Typed) → answer e n (infer e f c t (term e f c t)) ≡ r → ((p : Span) → r ≡ spent_at p → ⊥) → answer e (n + more) (infer e f c t (term e f c t)) ≡ r }
     ensures checked { (e : Env) (f : Encodings) (c : List Entry) (t : Scoped) (a : Tree) (n more : ℕ) (r : Finding Tree) → answer e n (check e f c t (term e f c t) a) ≡ r → ((p : Span) → r ≡ spent_at p → ⊥) → answer e (n + more) (check e f c t (term e f c t) a) ≡ r }
     ensures kinded { (e : Env) (f : Encodings) (c : List Entry) (t : Scoped) (n more : ℕ) (r : Finding Typed) → answer e n (type e f c t) ≡ r → ((p : Span) → r ≡ spent_at p → ⊥) → answer e (n + more) (type e f c t) ≡ r }
+    ensures a_kind { (e : Env) (f : Encodings) (c : List Entry) (t : Scoped) (n more : ℕ) (r : Finding Tree) → answer e n (kind e f c t) ≡ r → ((p : Span) → r ≡ spent_at p → ⊥) → answer e (n + more) (kind e f c t) ≡ r }
     ensures item { (e : Env) (f : Encodings) (i : ScopedItem) (n more : ℕ) (r : Finding Written) → answer e n (item_of_source e f i) ≡ r → ((p : Span) → r ≡ spent_at p → ⊥) → answer e (n + more) (item_of_source e f i) ≡ r }
+    ensures items { (e : Env) (f : Encodings) (is : List ScopedItem) (n more : ℕ) (r : Finding (List Written)) → items_of_source n e f is ≡ r → ((p : Span) → r ≡ spent_at p → ⊥) → items_of_source (n + more) e f is ≡ r }
+    ensures modules { (e : Env) (f : Encodings) (ms : List ScopedModule) (n more : ℕ) (r : Finding (List Written)) → items_of_modules n e f ms ≡ r → ((p : Span) → r ≡ spent_at p → ⊥) → items_of_modules (n + more) e f ms ≡ r }
 {}
 
 /// What is given is of its class over the context and has an erasure.
@@ -79,12 +82,23 @@ pub fn given_has_derivation()
         → SourceFits (entry_sorts c) (item_sorts e.items) kinds t → (n : ℕ) (k : Tree) → answer e n (kind e f c t) ≡ found k → Has (signature e.items) a_kind (erased_context c) k star }
 {}
 
+/// The item that is given for a definition may stand behind the items so far: it has the source's name, is over them, has erasures and a derivation, and
+/// erases to the source, in which each constructor stands as its encoding.
+pub fn given_item_has_derivation()
+    ensures equal { (e : Env) → EnvSound e → AreDerived e.items → (i : ScopedItem) → SourceItemFits (item_sorts e.items) i
+        → (n : ℕ) (w : Written) → answer e n (item_of_source e no_encodings i) ≡ found w → IsItemOf (λ a b. a ≡ b) e no_encodings i w }
+    ensures joined { (e : Env) (f : Encodings) → EnvSound e → AreDerived e.items → EncodingsFit (item_sorts e.items) f → AreEncodings e f → (i : ScopedItem) → SourceItemFits (item_sorts e.items) i
+        → (n : ℕ) (w : Written) → answer e n (item_of_source e f i) ≡ found w → IsItemOf (Joined (bodies (signature e.items))) e f i w }
+{}
+
 /// The items that are given for a list of definitions, behind the items so far, are a list of items that has a derivation, and each erases to its source.
+/// Those of modules one after the other are those of all their definitions as one list.
 pub fn given_items_have_derivation()
     ensures derived { (n : ℕ) (e : Env) → EnvSound e → AreDerived e.items → (is : List ScopedItem) → SourceItemsFit (item_sorts e.items) is → NamesDiffer (names_of e.items) is
-        → (ws : List Written) → items_of_source n e no_encodings is ≡ found ws → AreScoped (e.items ++ ws) × AreDerived (e.items ++ ws) }
+        → (ws : List Written) → items_of_source n e no_encodings is ≡ found ws → AreScoped (e.items ++ ws) × HaveErasures (e.items ++ ws) × AreDerived (e.items ++ ws) }
     ensures erase { (n : ℕ) (e : Env) → EnvSound e → AreDerived e.items → (is : List ScopedItem) → SourceItemsFit (item_sorts e.items) is → NamesDiffer (names_of e.items) is
         → (ws : List Written) → items_of_source n e no_encodings is ≡ found ws → EraseTo (λ a b. a ≡ b) no_encodings is ws }
+    ensures modules { (n : ℕ) (e : Env) (f : Encodings) (ms : List ScopedModule) → items_of_modules n e f ms ≡ items_of_source n e f (items_in ms) }
 {}
 
 /// A tree that does not use the innermost variable of a derivation has one without it.

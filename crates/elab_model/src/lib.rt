@@ -21,8 +21,9 @@ pub use head_laws::{
 };
 pub use laws::{
     derivations_are_strengthened, given_erases_joined, given_erases_to_source,
-    given_has_derivation, given_is_of_its_class, given_items_have_derivation, instance_is_found,
-    larger_budget_keeps_rules, there_is_always_an_answer,
+    given_has_derivation, given_is_of_its_class, given_item_has_derivation,
+    given_items_have_derivation, instance_is_found, larger_budget_keeps_rules,
+    there_is_always_an_answer,
 };
 pub use rule_examples::examples_are_answered;
 pub use spine_laws::{
