@@ -22,7 +22,7 @@ use Rattle.source_model.specs.Source.{Span}
 use Rattle.source_model.specs.Heights.{span_of}
 use Rattle.scope_model.specs.Scoped.{Reference, variable, item, cast, Scoped}
 use Rattle.elab_model.specs.ScopedForms.{letter, bracket, s_name, s_lam, s_elam, s_xlam, s_unclassed, s_app, s_eapp, s_tapp, s_pair, s_fst, s_snd, s_beta, s_rho, s_phi, s_delta, s_chi, s_flip, s_pi, s_all, s_allt, s_tlam, s_xtlam, s_iota, s_at, s_on, s_eq, s_star, s_kpi, s_kpit}
-use Rattle.elab_model.specs.SourceErasure.{identity, Encodings, source_erased}
+use Rattle.elab_model.specs.SourceErasure.{Encodings, source_erased}
 use Rattle.elab_model.specs.SourceClasses.{IsLeftOut, SourceFits}
 use Rattle.elab_model.specs.Questions.{Questions, rejects, ask_same, then, unless_deep, Env}
 use Rattle.elab_model.specs.SoundTrees.{Sound}

@@ -3,7 +3,7 @@ use Rattle.std.proofs.Common.{◌≡◌, ℕ, List, [], ◌∷◌, ◌++◌, ref
 use Rattle.std.proofs.lemmas.List.{append_assoc, append-nil}
 use Rattle.cdle_model.specs.Trees.{Tree}
 use Rattle.cdle_model.specs.Forms.{star, Written, name_of}
-use Rattle.cdle_model.specs.Classes.{terms, types, kinds, item_sort, item_sorts, IsScopedOver, AreScopedOver, AreScoped}
+use Rattle.cdle_model.specs.Classes.{terms, types, kinds, item_sorts, IsScopedOver, AreScopedOver, AreScoped}
 use Rattle.cdle_model.specs.Erasure.{erased}
 use Rattle.cdle_model.specs.Fitting.{entry_sorts, ItemHasErasures, HaveErasures}
 use Rattle.cdle_model.specs.Derivation.{Entry, a_term, a_type, a_kind, Has, converted, signature, IsNew, HasItem, DerivedAfter, AreDerived}
@@ -19,7 +19,7 @@ use Rattle.elab_model.specs.Derived.{erased_context, ContextDerived}
 use Rattle.elab_model.specs.Spines.{Typed}
 use Rattle.elab_model.specs.Rules.{infer, check, term, type, kind}
 use Rattle.elab_model.specs.ScopedForms.{s_def, s_type}
-use Rattle.elab_model.specs.Items.{ErasesTo, EraseTo, SourceItemFits, source_sort, source_name, item_of_source, IsFresh, names_of, with_items, behind, found_then, items_of_source, IsItemOf, SourceItemsFit, NamesDiffer}
+use Rattle.elab_model.specs.Items.{EraseTo, SourceItemFits, source_name, item_of_source, IsFresh, names_of, with_items, behind, found_then, items_of_source, IsItemOf, SourceItemsFit, NamesDiffer}
 use Rattle.elab_model.proofs.Ensures.{Ensures, ensured, ensures-then}
 use Rattle.elab_model.proofs.SoundSpines.{IsLike}
 use Rattle.elab_model.proofs.SoundRules.{term-sound, kinded-sound, kind-sound}

@@ -18,14 +18,14 @@ use Rattle.source_model.specs.Source.{Span, none_of, leaf}
 use Rattle.source_model.specs.Heights.{span_of, is_none}
 use Rattle.scope_model.specs.Scoped.{Reference, variable, item, cast, Scoped}
 use Rattle.elab_model.specs.ScopedForms.{letter, bracket, s_name, s_lam, s_elam, s_xlam, s_unclassed, s_app, s_eapp, s_tapp, s_pair, s_fst, s_snd, s_beta, s_rho, s_phi, s_delta, s_chi, s_flip, s_pi, s_all, s_allt, s_tlam, s_xtlam, s_iota, s_at, s_on, s_eq, s_star, s_kpi, s_kpit}
-use Rattle.elab_model.specs.SourceErasure.{identity, Encodings, name_erased, source_erased}
+use Rattle.elab_model.specs.SourceErasure.{Encodings, name_erased, source_erased}
 use Rattle.elab_model.specs.SourceClasses.{IsLeftOut, IsUse, SourceFits}
 use Rattle.elab_model.specs.Questions.{Questions, gives, rejects, ask_same, then, unless_deep, limited, Env}
 use Rattle.elab_model.specs.SoundTrees.{Sound}
 use Rattle.elab_model.specs.Soundness.{EnvSound, ContextSound, EncodingsFit}
 use Rattle.elab_model.specs.Derived.{ContextDerived}
 use Rattle.elab_model.specs.Spines.{Typed, Spine, Made, checked, inferred, spine, argument, type_argument, known_of}
-use Rattle.elab_model.specs.Rules.{found_term, found_type, gives_inferred, gives_checked, gives_spine, gives_type, star_then, if_written, if_annotated, binder_then, equation_then, unless_used, by_goal, is_equation, term_name, type_name, Asked, infer, check, started, head_then, proof_then, erase, term, type, kind}
+use Rattle.elab_model.specs.Rules.{found_term, found_type, gives_inferred, gives_checked, gives_spine, gives_type, star_then, if_written, binder_then, equation_then, unless_used, by_goal, is_equation, term_name, type_name, Asked, infer, check, started, head_then, proof_then, erase, term, type, kind}
 use Rattle.elab_model.proofs.SoundPuts.{sound-put}
 use Rattle.elab_model.proofs.Ensures.{Ensures, ensures-then, ensures-more}
 use Rattle.elab_model.proofs.SoundSpines.{ensures-any, IsLike, SpineSound, TypedSound, TermSound, IsGoal, begins, head-whole}

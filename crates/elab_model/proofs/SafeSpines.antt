@@ -21,7 +21,7 @@ use Rattle.elab_model.specs.Questions.{Questions, gives, rejects, astray, ask_sa
 use Rattle.elab_model.specs.Instances.{Solution, found_in, solved_in, all_found, has_unknown, instance}
 use Rattle.elab_model.specs.SoundTrees.{Sound}
 use Rattle.elab_model.specs.Soundness.{ItemSound, EnvSound, EntrySound, ContextSound}
-use Rattle.elab_model.specs.Spines.{Typed, Spine, Made, checked, inferred, spine, binder_parts, equation_parts, made_so_far, leaves_out, brought, if_solved, fits_then, refreshed, applied, applied_at, argument, type_argument, known_of, kind_in, kind_of, kinds_agree, closes, without_goal, leading_out, led, fitted, against}
+use Rattle.elab_model.specs.Spines.{Typed, Spine, Made, checked, inferred, spine, binder_parts, equation_parts, leaves_out, brought, if_solved, fits_then, refreshed, applied, applied_at, argument, type_argument, known_of, kind_in, kind_of, kinds_agree, closes, without_goal, leading_out, led, fitted, against}
 use Rattle.elab_model.proofs.SoundPuts.{two, sound-put}
 use Rattle.elab_model.proofs.SoundItems.{entry-sound, item-sound}
 use Rattle.elab_model.proofs.Ensures.{Ensures, ensures-then, ensures-deep, ensures-binder}
@@ -138,9 +138,6 @@ module _ (e : Env) (g : EnvSound e) (f : Encodings) (R : Tree → Tree → Type 
   module _ (c : List Entry) (hc : ContextSound Xs c) where
     abbrev pub Vs : List Sort
     Vs = entry_sorts c
-
-    safe-so-far : (w : Span) (s : Spine) → Safe e (made_so_far w s)
-    safe-so-far w s = safe-deep e w s.term _ (safe-deep e w s.type _ tt)
 
     safe-leaves : (w : Span) (s : Spine) (k b : Tree) → Safe e (leaves_out w s k b)
     safe-leaves w s k b = safe-deep e w (tapp s.term (leaf (unknown (length s.kinds)))) _ (safe-deep e w (put_written 0 (leaf (unknown (length s.kinds))) b) _ tt)

@@ -21,7 +21,7 @@ use Rattle.elab_model.specs.SourceErasure.{identity, Encodings, encoded, name_er
 use Rattle.elab_model.specs.SourceClasses.{IsLeftOut, SourceFits}
 use Rattle.elab_model.specs.Questions.{Questions, rejects, ask_same, then, unless_deep, Env}
 use Rattle.elab_model.specs.Spines.{Typed, Spine, Made, checked, inferred, spine, argument, type_argument, known_of}
-use Rattle.elab_model.specs.Rules.{found_term, found_type, gives_inferred, gives_checked, gives_spine, gives_type, star_then, if_written, if_annotated, binder_then, equation_then, unless_used, by_goal, is_equation, term_name, type_name, Asked, infer, check, started, head_then, proof_then, erase, term, type, kind}
+use Rattle.elab_model.specs.Rules.{found_term, found_type, gives_inferred, gives_checked, gives_spine, gives_type, star_then, if_written, binder_then, equation_then, unless_used, by_goal, is_equation, term_name, type_name, Asked, infer, check, started, head_then, proof_then, erase, term, type, kind}
 use Rattle.elab_model.specs.SoundTrees.{Sound}
 use Rattle.elab_model.specs.Soundness.{EnvSound, ContextSound, EncodingsFit}
 use Rattle.elab_model.proofs.SoundPuts.{two, sound-put}

@@ -159,53 +159,53 @@ module _ (e : Env) (f : Encodings) where
     -- `λ x : A . t`
     term c (s_lam s x a t) g w = by_goal g
         (if_written a
-            (star_then s a (type c a) (λ d.
-            then (infer (term_of d ∷ c) t (term (term_of d ∷ c) t)) (λ r.
-            gives_inferred s (lam d r.0) (pi d r.1))))
-            (rejects (letter s) AnnotationWanted))
+        (star_then s a (type c a) (λ d.
+        then (infer (term_of d ∷ c) t (term (term_of d ∷ c) t)) (λ r.
+        gives_inferred s (lam d r.0) (pi d r.1))))
+        (rejects (letter s) AnnotationWanted))
         (λ b. binder_then s (letter s) WantedFunction pi_of b (λ d b.
-            if_annotated a (λ q. star_then s a (type c a) (λ d'. agrees_then s a d' d q))
-            (then (check (term_of d ∷ c) t (term (term_of d ∷ c) t) b) (λ t.
-            gives_checked s (lam d t)))))
+        if_annotated a (λ q. star_then s a (type c a) (λ d'. agrees_then s a d' d q))
+        (then (check (term_of d ∷ c) t (term (term_of d ∷ c) t) b) (λ t.
+        gives_checked s (lam d t)))))
     -- `Λ x : A . t`
     term c (s_elam s x a t) g w = by_goal g
         (if_written a
-            (star_then s a (type c a) (λ d.
-            then (infer (term_of d ∷ c) t (term (term_of d ∷ c) t)) (λ r.
-            unless_used (letter s) (erased r.0)
-            (gives_inferred s (elam d r.0) (all d r.1)))))
-            (rejects (letter s) AnnotationWanted))
+        (star_then s a (type c a) (λ d.
+        then (infer (term_of d ∷ c) t (term (term_of d ∷ c) t)) (λ r.
+        unless_used (letter s) (erased r.0)
+        (gives_inferred s (elam d r.0) (all d r.1)))))
+        (rejects (letter s) AnnotationWanted))
         (λ b. binder_then s (letter s) WantedFunction all_of b (λ d b.
-            if_annotated a (λ q. star_then s a (type c a) (λ d'. agrees_then s a d' d q))
-            (then (check (term_of d ∷ c) t (term (term_of d ∷ c) t) b) (λ t.
-            unless_used (letter s) (erased t)
-            (gives_checked s (elam d t))))))
+        if_annotated a (λ q. star_then s a (type c a) (λ d'. agrees_then s a d' d q))
+        (then (check (term_of d ∷ c) t (term (term_of d ∷ c) t) b) (λ t.
+        unless_used (letter s) (erased t)
+        (gives_checked s (elam d t))))))
     -- `Λ X : κ . t`
     term c (s_xlam s x k t) g w = by_goal g
         (if_written k
-            (then (kind c k) (λ d.
-            then (infer (type_of d ∷ c) t (term (type_of d ∷ c) t)) (λ r.
-            unless_used (letter s) (erased r.0)
-            (gives_inferred s (xlam d r.0) (allt d r.1)))))
-            (rejects (letter s) AnnotationWanted))
+        (then (kind c k) (λ d.
+        then (infer (type_of d ∷ c) t (term (type_of d ∷ c) t)) (λ r.
+        unless_used (letter s) (erased r.0)
+        (gives_inferred s (xlam d r.0) (allt d r.1)))))
+        (rejects (letter s) AnnotationWanted))
         (λ b. binder_then s (letter s) WantedFunction allt_of b (λ d b.
-            if_annotated k (λ q. then (kind c k) (λ d'. agrees_then s k d' d q))
-            (then (check (type_of d ∷ c) t (term (type_of d ∷ c) t) b) (λ t.
-            unless_used (letter s) (erased t)
-            (gives_checked s (xlam d t))))))
+        if_annotated k (λ q. then (kind c k) (λ d'. agrees_then s k d' d q))
+        (then (check (type_of d ∷ c) t (term (type_of d ∷ c) t) b) (λ t.
+        unless_used (letter s) (erased t)
+        (gives_checked s (xlam d t))))))
     -- `Λ x . t` whose variable is not used: of the class that the head form asks for
     term c (s_unclassed s x a t) g w = by_goal g
         (rejects (letter s) AnnotationWanted)
         (λ b. ask_head s (letter s) false b (λ h. either_product h
-            (λ d b.
-                then (check (term_of d ∷ c) t (term (term_of d ∷ c) t) b) (λ t.
-                unless_used (letter s) (erased t)
-                (gives_checked s (elam d t))))
-            (λ d b.
-                then (check (type_of d ∷ c) t (term (type_of d ∷ c) t) b) (λ t.
-                unless_used (letter s) (erased t)
-                (gives_checked s (xlam d t))))
-            (rejects (letter s) WantedFunction)))
+        (λ d b.
+        then (check (term_of d ∷ c) t (term (term_of d ∷ c) t) b) (λ t.
+        unless_used (letter s) (erased t)
+        (gives_checked s (elam d t))))
+        (λ d b.
+        then (check (type_of d ∷ c) t (term (type_of d ∷ c) t) b) (λ t.
+        unless_used (letter s) (erased t)
+        (gives_checked s (xlam d t))))
+        (rejects (letter s) WantedFunction)))
     -- spines: the head, and then an argument
     term c (s_app s t u) g w = head_then t (term c t) w (argument w pi_of app_of (span_of u) (infer c u (term c u)) (check c u (term c u)))
     term c (s_eapp s t u) g w = head_then t (term c t) w (argument w all_of eapp_of (span_of u) (infer c u (term c u)) (check c u (term c u)))
@@ -214,11 +214,11 @@ module _ (e : Env) (f : Encodings) where
     term c (s_pair s t u) g w = by_goal g
         (rejects (bracket s) AnnotationWanted)
         (λ a. binder_then s (bracket s) WantedIntersection iota_of a (λ a b.
-            then (check c t (term c t) a) (λ t.
-            unless_deep s (put_written 0 t b)
-            (then (check c u (term c u) (put_written 0 t b)) (λ u.
-            ask_same s (bracket s) PartsDiffer (erased t) (erased u)
-            (gives_checked s (pair t u b)))))))
+        then (check c t (term c t) a) (λ t.
+        unless_deep s (put_written 0 t b)
+        (then (check c u (term c u) (put_written 0 t b)) (λ u.
+        ask_same s (bracket s) PartsDiffer (erased t) (erased u)
+        (gives_checked s (pair t u b)))))))
     -- `t.1`, `t.2`
     term c (s_fst s t) g w =
         then (infer c t (term c t)) (λ x.
@@ -234,11 +234,11 @@ module _ (e : Env) (f : Encodings) where
         then (erase p) (λ k.
         gives_inferred s (beta x k) (eq x x))))
         (by_goal g
-            (rejects (letter s) AnnotationWanted)
-            (λ a. equation_then s (letter s) a (λ x y.
-                then (erase p) (λ k.
-                ask_same s (letter s) SidesDiffer x y
-                (gives_checked s (beta x k))))))
+        (rejects (letter s) AnnotationWanted)
+        (λ a. equation_then s (letter s) a (λ x y.
+        then (erase p) (λ k.
+        ask_same s (letter s) SidesDiffer x y
+        (gives_checked s (beta x k))))))
     -- `ρ q @ x . d - t`: where the guide is written as an equation, t is checked against it; else there is a type asked for, and t is inferred
     term c (s_rho s r x q d t) g w = proof_then s c q (term c q) (λ q x y. cond (is_equation d)
         (then (erase d) (λ d.
@@ -247,18 +247,18 @@ module _ (e : Env) (f : Encodings) where
         (unless_deep s (put 0 y d)
         (then (check c t (term c t) (put 0 y d)) (λ t.
         by_goal g
-            (gives_inferred s (rho q d (put 0 x d) t) (put 0 x d))
-            (λ a. gives_checked s (rho q d a t))))))))
+        (gives_inferred s (rho q d (put 0 x d) t) (put 0 x d))
+        (λ a. gives_checked s (rho q d a t))))))))
         (by_goal g
-            (rejects (letter s) AnnotationWanted)
-            (λ a.
-                then (erase d) (λ d.
-                unless_deep s (put 0 x d)
-                (ask_same s (letter s) SidesDiffer (erased a) (put 0 x d)
-                (then (infer c t (term c t)) (λ z.
-                unless_deep s (put 0 y d)
-                (ask_same s (span_of t) Mismatch (erased z.1) (put 0 y d)
-                (gives_checked s (rho q d a z.0))))))))))
+        (rejects (letter s) AnnotationWanted)
+        (λ a.
+        then (erase d) (λ d.
+        unless_deep s (put 0 x d)
+        (ask_same s (letter s) SidesDiffer (erased a) (put 0 x d)
+        (then (infer c t (term c t)) (λ z.
+        unless_deep s (put 0 y d)
+        (ask_same s (span_of t) Mismatch (erased z.1) (put 0 y d)
+        (gives_checked s (rho q d a z.0))))))))))
     -- `φ q - t { p }`
     term c (s_phi s r q t p) g w = proof_then s c q (term c q) (λ q x y. by_goal g
         (then (infer c t (term c t)) (λ z.
@@ -267,11 +267,11 @@ module _ (e : Env) (f : Encodings) where
         (ask_same s (letter s) SidesDiffer y k
         (gives_inferred s (phi q z.0 k) z.1)))))
         (λ a.
-            then (check c t (term c t) a) (λ t.
-            then (erase p) (λ k.
-            ask_same s (letter s) SidesDiffer x (erased t)
-            (ask_same s (letter s) SidesDiffer y k
-            (gives_checked s (phi q t k)))))))
+        then (check c t (term c t) a) (λ t.
+        then (erase p) (λ k.
+        ask_same s (letter s) SidesDiffer x (erased t)
+        (ask_same s (letter s) SidesDiffer y k
+        (gives_checked s (phi q t k)))))))
     -- `δ A - q`
     term c (s_delta s a q) g w = if_written a
         (star_then s a (type c a) (λ a.
@@ -280,11 +280,11 @@ module _ (e : Env) (f : Encodings) where
         (ask_same s (letter s) NotTheTwoBooleans y false_pure
         (gives_inferred s (delta a q) a)))))
         (by_goal g
-            (rejects (letter s) AnnotationWanted)
-            (λ a. proof_then s c q (term c q) (λ q x y.
-                ask_same s (letter s) NotTheTwoBooleans x true_pure
-                (ask_same s (letter s) NotTheTwoBooleans y false_pure
-                (gives_checked s (delta a q))))))
+        (rejects (letter s) AnnotationWanted)
+        (λ a. proof_then s c q (term c q) (λ q x y.
+        ask_same s (letter s) NotTheTwoBooleans x true_pure
+        (ask_same s (letter s) NotTheTwoBooleans y false_pure
+        (gives_checked s (delta a q))))))
     -- `χ A - t`
     term c (s_chi s a t) g w =
         star_then s a (type c a) (λ a.
@@ -327,17 +327,17 @@ module _ (e : Env) (f : Encodings) where
     -- `A t`, `A ·B`
     type c (s_at s a t) =
         then (type c a) (λ y. binder_parts kpi_of y.1
-            (λ b k.
-                then (check c t (term c t) b) (λ t.
-                gives_type s (at_ y.0 t) (put_written 0 t k)))
-            (rejects (span_of a) WantedKind))
+        (λ b k.
+        then (check c t (term c t) b) (λ t.
+        gives_type s (at_ y.0 t) (put_written 0 t k)))
+        (rejects (span_of a) WantedKind))
     type c (s_on s a b) =
         then (type c a) (λ y. binder_parts kpit_of y.1
-            (λ k l.
-                then (type c b) (λ z.
-                ask_same s (span_of b) WantedKind (erased z.1) (erased k)
-                (gives_type s (on y.0 z.0) (put_written 0 z.0 l))))
-            (rejects (span_of a) WantedKind))
+        (λ k l.
+        then (type c b) (λ z.
+        ask_same s (span_of b) WantedKind (erased z.1) (erased k)
+        (gives_type s (on y.0 z.0) (put_written 0 z.0 l))))
+        (rejects (span_of a) WantedKind))
     -- `{ t ≃ u }`
     type c (s_eq s t u) =
         then (erase t) (λ p.

@@ -4,8 +4,7 @@ use Rattle.cdle_model.specs.declared.grammar.Sort.{Sort}
 use Rattle.cdle_model.specs.declared.grammar.Sort.TheVariants.{OfTerm}
 use Rattle.cdle_model.specs.Trees.{Tree, name}
 use Rattle.cdle_model.specs.Forms.{Written, def_item, type_item}
-use Rattle.cdle_model.specs.Classes.{TreeClass, terms, types, kinds, pure_terms, within, Fits, AreScoped}
-use Rattle.cdle_model.specs.Erasure.{HasErasure}
+use Rattle.cdle_model.specs.Classes.{terms, types, kinds, pure_terms, within, Fits, AreScoped}
 use Rattle.cdle_model.specs.Fitting.{HaveErasures, entry_sorts}
 use Rattle.cdle_model.specs.Steps.{Joined}
 use Rattle.cdle_model.specs.Derivation.{Entry, term_of, type_of, bodies, signature}
