@@ -1,30 +1,26 @@
 -- Derivations of what the surface rules read off: entries of contexts and items, parts of types, kinds of annotated types.
 use Rattle.std.proofs.Common.{◌≡◌, ℕ, zero, suc, Bool, true, false, cond, List, [], ◌∷◌, ◌++◌, length, Option, Some, None, slice_get, option_map, refl, sym, ap, ◌∙◌, subst, arith}
-use Rattle.cdle_model.specs.Trees.{of_term, of_type, pi_of, all_of, allt_of, iota_of, kpi_of, kpit_of, tlam_of, xtlam_of, Tree, var, name, leaf, apply, bind, lacks, IsBelow}
-use Rattle.cdle_model.specs.Forms.{star, kpi, kpit, pi, all, allt, at_, on, iota, eq, tlam, xtlam, Written, def_item, type_item}
+use Rattle.cdle_model.specs.Trees.{of_term, of_type, pi_of, all_of, allt_of, iota_of, kpi_of, kpit_of, tlam_of, xtlam_of, Tree, leaf, apply, bind, lacks, IsBelow}
+use Rattle.cdle_model.specs.Forms.{star, kpi, kpit, Written, def_item, type_item}
 use Rattle.cdle_model.specs.Classes.{Scope, types, kinds, Fits, AreScoped, item_sorts}
 use Rattle.cdle_model.specs.Erasure.{erased, lowered}
-use Rattle.cdle_model.specs.Substitution.{put_written}
-use Rattle.cdle_model.specs.Derivation.{Entry, term_of, type_of, raised, entry, Item, item, Judgement, a_term, a_type, a_kind, var_type, name_type, pi_rule, all_rule, iota_rule, allt_rule, tlam_rule, xtlam_rule, at_rule, on_rule, eq_rule, Has, by_rule, converted, signed, signature, AreDerived}
+use Rattle.cdle_model.specs.Derivation.{Entry, term_of, type_of, raised, entry, Item, item, Judgement, a_term, a_type, a_kind, Has, signed, signature, AreDerived}
 use Rattle.cdle_model.proofs.Renaming.{ren}
 use Rattle.cdle_model.proofs.Closed.{ren-closed}
-use Rattle.cdle_model.proofs.ErasedSubstitution.{erased-shift, erased-put}
+use Rattle.cdle_model.proofs.ErasedSubstitution.{erased-shift}
 use Rattle.cdle_model.proofs.ScopedTrees.{fits-inner}
 use Rattle.cdle_model.proofs.Signatures.{ClosedItems}
-use Rattle.cdle_model.proofs.UniqueTypes.{types-unique, unconverted, bind-parts}
+use Rattle.cdle_model.proofs.UniqueTypes.{unconverted}
 use Rattle.cdle_model.proofs.RenamedDerivations.{Renames, has-ren}
 use Rattle.cdle_model.proofs.Inversion.{in_pi, in_all, in_iota, in_allt, in_tlam, in_xtlam, in_at, in_on, in_kpi, in_kpit}
-use Rattle.elab_model.specs.declared.codes.Code.TheVariants.{WantedKind}
-use Rattle.source_model.specs.Source.{Span}
-use Rattle.elab_model.specs.Questions.{rejects, Env}
+use Rattle.elab_model.specs.Questions.{Env}
 use Rattle.elab_model.specs.Soundness.{ItemSound}
 use Rattle.elab_model.specs.Derived.{erased_entry, erased_context, EntryDerived, ContextDerived}
 use Rattle.elab_model.specs.Instances.{is_unknown, Part, if_is, first_place, outside, part_outside}
-use Rattle.elab_model.specs.Spines.{known_of, kind_in, kind_of}
+use Rattle.elab_model.specs.Spines.{known_of}
 use Rattle.elab_model.proofs.DerivedBodies.{items-closed, item-get, known-items}
 use Rattle.elab_model.proofs.Strengthened.{IsRuled, rule-ruled, strengthened, has-raised}
 use Rattle.elab_model.proofs.FoundParts.{or_part-is, of_domain-is, of_head-is, if_former-is, either, lowered-is}
-use Rattle.elab_model.proofs.Ensures.{Ensures, ensures-then, ensures-deep, ensures-binder}
 
 -- ---- contexts
 
@@ -169,36 +165,3 @@ module _ (e : Env) (g : AreScoped e.items) (v : AreDerived e.items) where
           let b : IsBelow 0 l = (fits-inner [] (item_sorts e.items) kinds l (s n (type_item x l a) j).0.0).0 in
           rw (← m) (in-context (signature e.items) (items-closed e.items g) d a_kind l star (known-items e.items v n (type_item x l a) j).0 (λ r. ren-closed r l b) (λ r. refl))
       by_item None j k = absurd (grind arith)
-
-  -- kinds are read off
-  kind-in : (o : Option Entry) (P : Tree → Type 0) → ((k : Tree) → o ≡ Some (type_of k) → P k) → Ensures e P (kind_in o)
-  kind-in (Some (type_of k)) P h = h k refl
-  kind-in (Some (term_of a)) P h = tt
-  kind-in None P h = tt
-
-  -- where the type has a kind, it has the one that is read off
-  pub kind-has : (a : Tree) (c : List Entry) (w : Span) → Ensures e (λ m. (b : Tree) → Has (signature e.items) a_type (erased_context c) a b → Has (signature e.items) a_type (erased_context c) a (erased m)) (kind_of e w c a)
-  kind-has (var i) c w = kind-in (entry c i) _ (λ k j b h. by_rule (var_type (erased-entry c i (type_of k) j)))
-  kind-has (name n) c w = kind-in (known_of (slice_get e.items n)) _ (λ k j b h. by_rule (name_type (known-item n (type_of k) j)))
-  kind-has (pi x y) c w = λ b h. let (k, l) = in_pi h in by_rule (pi_rule k l)
-  kind-has (all x y) c w = λ b h. let (k, l) = in_all h in by_rule (all_rule k l)
-  kind-has (allt x y) c w = λ b h. let (k, l) = in_allt h in by_rule (allt_rule k l)
-  kind-has (iota x y) c w = λ b h. let (k, l) = in_iota h in by_rule (iota_rule k l)
-  kind-has (eq x y) c w = λ b h. by_rule eq_rule
-  kind-has (tlam x y) c w = ensures-then e (λ m. (b : Tree) → Has (signature e.items) a_type (term_of (erased x) ∷ erased_context c) y b → Has (signature e.items) a_type (term_of (erased x) ∷ erased_context c) y (erased m)) (λ m. (b : Tree) → Has (signature e.items) a_type (erased_context c) (tlam x y) b → Has (signature e.items) a_type (erased_context c) (tlam x y) (erased m)) (kind_of e w (term_of x ∷ c) y) _ (kind-has y (term_of x ∷ c) w)
-      (λ m n. ensures-deep e (λ m. (b : Tree) → Has (signature e.items) a_type (erased_context c) (tlam x y) b → Has (signature e.items) a_type (erased_context c) (tlam x y) (erased m)) w (kpi x m) _ (λ b h. let (z, k, l) = in_tlam h in by_rule (tlam_rule k (n z l))))
-  kind-has (xtlam x y) c w = ensures-then e (λ m. (b : Tree) → Has (signature e.items) a_type (type_of (erased x) ∷ erased_context c) y b → Has (signature e.items) a_type (type_of (erased x) ∷ erased_context c) y (erased m)) (λ m. (b : Tree) → Has (signature e.items) a_type (erased_context c) (xtlam x y) b → Has (signature e.items) a_type (erased_context c) (xtlam x y) (erased m)) (kind_of e w (type_of x ∷ c) y) _ (kind-has y (type_of x ∷ c) w)
-      (λ m n. ensures-deep e (λ m. (b : Tree) → Has (signature e.items) a_type (erased_context c) (xtlam x y) b → Has (signature e.items) a_type (erased_context c) (xtlam x y) (erased m)) w (kpit x m) _ (λ b h. let (z, k, l) = in_xtlam h in by_rule (xtlam_rule k (n z l))))
-  kind-has (at_ x t) c w = ensures-then e (λ m. (b : Tree) → Has (signature e.items) a_type (erased_context c) x b → Has (signature e.items) a_type (erased_context c) x (erased m)) (λ m. (b : Tree) → Has (signature e.items) a_type (erased_context c) (at_ x t) b → Has (signature e.items) a_type (erased_context c) (at_ x t) (erased m)) (kind_of e w c x) _ (kind-has x c w)
-      (λ m n. ensures-binder e (λ m. (b : Tree) → Has (signature e.items) a_type (erased_context c) (at_ x t) b → Has (signature e.items) a_type (erased_context c) (at_ x t) (erased m)) kpi_of m _ (rejects w WantedKind) (λ p q i. ensures-deep e (λ m. (b : Tree) → Has (signature e.items) a_type (erased_context c) (at_ x t) b → Has (signature e.items) a_type (erased_context c) (at_ x t) (erased m)) w (put_written 0 t q) _ (λ b h.
-      let (y, z, k, l) = in_at h in
-      let o : Has (signature e.items) a_type (erased_context c) x (kpi (erased p) (erased q)) = subst (λ m. Has (signature e.items) a_type (erased_context c) x (erased m)) i (n (kpi y z) k) in
-      let u = bind-parts (signature e.items) (items-closed e.items g).signed_bodies (types-unique (signature e.items) (items-closed e.items g).signed_bodies a_type (erased_context c) x (kpi y z) (kpi (erased p) (erased q)) k o) in
-      rw (erased-put 0 t q) (by_rule (at_rule o (converted l u.0))))) tt)
-  kind-has (on x t) c w = ensures-then e (λ m. (b : Tree) → Has (signature e.items) a_type (erased_context c) x b → Has (signature e.items) a_type (erased_context c) x (erased m)) (λ m. (b : Tree) → Has (signature e.items) a_type (erased_context c) (on x t) b → Has (signature e.items) a_type (erased_context c) (on x t) (erased m)) (kind_of e w c x) _ (kind-has x c w)
-      (λ m n. ensures-binder e (λ m. (b : Tree) → Has (signature e.items) a_type (erased_context c) (on x t) b → Has (signature e.items) a_type (erased_context c) (on x t) (erased m)) kpit_of m _ (rejects w WantedKind) (λ p q i. ensures-deep e (λ m. (b : Tree) → Has (signature e.items) a_type (erased_context c) (on x t) b → Has (signature e.items) a_type (erased_context c) (on x t) (erased m)) w (put_written 0 t q) _ (λ b h.
-      let (y, z, k, l) = in_on h in
-      let o : Has (signature e.items) a_type (erased_context c) x (kpit (erased p) (erased q)) = subst (λ m. Has (signature e.items) a_type (erased_context c) x (erased m)) i (n (kpit y z) k) in
-      let u = bind-parts (signature e.items) (items-closed e.items g).signed_bodies (types-unique (signature e.items) (items-closed e.items g).signed_bodies a_type (erased_context c) x (kpit y z) (kpit (erased p) (erased q)) k o) in
-      rw (erased-put 0 t q) (by_rule (on_rule o (converted l u.0))))) tt)
-  kind-has t c w = tt

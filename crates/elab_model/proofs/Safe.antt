@@ -5,46 +5,19 @@ use Rattle.cdle_model.specs.Forms.{at_, on, tlam, xtlam}
 use Rattle.cdle_model.specs.Substitution.{put_written}
 use Rattle.cdle_model.specs.Classes.{item_sorts}
 use Rattle.cdle_model.specs.Depth.{depth}
-use Rattle.cdle_model.specs.Steps.{Joined}
 use Rattle.cdle_model.specs.Machine.{Budgeted, answered, spent}
 use Rattle.cdle_model.specs.HeadForms.{Halt, deep, ill_classed, deepest, HeadStep, none, to, blocked, contraction, unfolding_of, step_under, at, fallen, HeadAnswer, value, no_value}
 use Rattle.cdle_model.specs.Comparison.{Answer, same, apart, halted, compare}
 use Rattle.cdle_model.specs.Derivation.{bodies, signature}
 use Rattle.cdle_model.proofs.Runs.{stops, spends, goes}
 use Rattle.cdle_model.proofs.SameJoined.{compare-joined}
-use Rattle.cdle_model.proofs.ClassChecked.{SameClass}
 use Rattle.cdle_model.proofs.ClassSteps.{compare-halts}
 use Rattle.cdle_model.proofs.ClassItems.{items-fit}
 use Rattle.source_model.specs.Source.{Span}
 use Rattle.elab_model.specs.HeadWritten.{Unfolding, all_but, written_step, limited, written_move, head_written}
-use Rattle.elab_model.specs.Questions.{Questions, gives, rejects, deep_at, astray, ask_same, ask_head, then, unless_deep, Env, out_of_scope, by_halt, by_answer, by_head, kept_names, head_in, answer}
+use Rattle.elab_model.specs.Questions.{Questions, gives, rejects, deep_at, astray, ask_same, ask_head, Env, out_of_scope, by_halt, by_answer, by_head, kept_names, head_in, answer}
 use Rattle.elab_model.specs.Soundness.{EnvSound}
-use Rattle.elab_model.proofs.Ensures.{IsHead, Ensures}
-
-abbrev pub Safe : {A : Type 0} → Env → Questions A → Type 0
-Safe e (gives x) = Unit {0}
-Safe e (rejects p w) = Unit {0}
-Safe e (deep_at f) = Unit {0}
-Safe e astray = ⊥
-Safe e (ask_same f p w a b q) = SameClass (item_sorts e.items) a b × (Joined (bodies (signature e.items)) a b → Safe e q)
-Safe e (ask_head f p d a k) = (b : Tree) → IsHead e d a b → Safe e (k b)
-
-pub safe-then : {A B : Type 0} (e : Env) (P : A → Type 0) (q : Questions A) (k : A → Questions B) → Safe e q → Ensures e P q → ((x : A) → P x → Safe e (k x)) → Safe e (then q k)
-safe-then e P (gives x) k s h l = l x h
-safe-then e P (rejects p w) k s h l = tt
-safe-then e P (deep_at f) k s h l = tt
-safe-then e P astray k s h l = s
-safe-then e P (ask_same f p w a b q) k s h l = (s.0, λ j. safe-then e P q k (s.1 j) (h j) l)
-safe-then e P (ask_head f p d a g) k s h l = λ b i. safe-then e P (g b) k (s b i) (h b i) l
-
-pub safe-if : {A : Type 0} (e : Env) (b : Bool) (q r : Questions A) → (b ≡ true → Safe e q) → (b ≡ false → Safe e r) → Safe e (cond b q r)
-safe-if e true q r h l = h refl
-safe-if e false q r h l = l refl
-
-pub safe-deep : {A : Type 0} (e : Env) (f : Span) (a : Tree) (q : Questions A) → Safe e q → Safe e (unless_deep f a q)
-safe-deep e f a q h = safe-if e (ltb deepest (depth a)) (deep_at f) q (λ i. tt) (λ i. h)
-
--- ---- the answers
+use Rattle.elab_model.proofs.Ensures.{Each, Ensures}
 
 -- a head form ends for good by depth alone
 abbrev StepDeep : HeadStep → Type 0
@@ -105,24 +78,27 @@ halts-deep : {A : Type 0} (f : Span) (h : Halt) → h ≡ deep → by_halt {A = 
 halts-deep f deep e i = grind arith
 halts-deep f ill_classed e i = grind arith
 
-pub safe-answer : {A : Type 0} (e : Env) → EnvSound e → (n : ℕ) (q : Questions A) → Safe e q → answer e n q ≡ out_of_scope → ⊥
-safe-answer e g n (gives x) s i = grind arith
-safe-answer e g n (rejects p w) s i = grind arith
-safe-answer e g n (deep_at f) s i = grind arith
-safe-answer e g n astray s i = s
-safe-answer e g n (ask_same f p w a b q) ((vs, c, k, x, y), s) i =
+each-answers : {A : Type 0} (e : Env) → EnvSound e → (n : ℕ) (P : A → Type 0) (q : Questions A) → Each e P q → answer e n q ≡ out_of_scope → ⊥
+each-answers e g n P (gives x) s i = grind arith
+each-answers e g n P (rejects p w) s i = grind arith
+each-answers e g n P (deep_at f) s i = grind arith
+each-answers e g n P astray s i = s
+each-answers e g n P (ask_same f p w a b q) ((vs, c, k, x, y), s) i =
     by_compare (compare (bodies (signature e.items)) n a b) (λ z j l. compare-halts (item_sorts e.items) (bodies (signature e.items)) (items-fit e.items g.items g.erasures).bodies_fit n vs c a b z j k x y l)
-    (λ j l. safe-answer e g n q (s (compare-joined (bodies (signature e.items)) n a b j l))) i
+    (λ j l. each-answers e g n P q (s (compare-joined (bodies (signature e.items)) n a b j l))) i
   where
     by_compare : (o : Budgeted Answer) → ((z : Halt) (j : ℕ) → o ≡ answered (halted z) j → z ≡ deep) → ((j : ℕ) → o ≡ answered same j → answer e n q ≡ out_of_scope → ⊥) → by_answer f p w o (answer e n q) ≡ out_of_scope → ⊥
     by_compare (answered same j) h l m = l j refl m
     by_compare (answered (apart u v) j) h l m = grind arith
     by_compare (answered (halted z) j) h l m = halts-deep f z (h z j refl) m
     by_compare spent h l m = grind arith
-safe-answer e g n (ask_head f p d a k) s i =
-    by_form (head_in e d n a) (head-deep (all_but (kept_names e d) e.items) n a) (λ b j l. safe-answer e g n (k b) (s b (record { units = n; left = j; is = l }))) i
+each-answers e g n P (ask_head f p d a k) s i =
+    by_form (head_in e d n a) (head-deep (all_but (kept_names e d) e.items) n a) (λ b j l. each-answers e g n P (k b) (s b (record { units = n; left = j; is = l }))) i
   where
     by_form : (o : Budgeted HeadAnswer) → EndsDeep o → ((b : Tree) (j : ℕ) → o ≡ answered (value b) j → answer e n (k b) ≡ out_of_scope → ⊥) → by_head f p o (λ b. answer e n (k b)) ≡ out_of_scope → ⊥
     by_form (answered (value b) j) h l m = l b j refl m
     by_form (answered (no_value z) j) h l m = halts-deep f z h m
     by_form spent h l m = grind arith
+
+pub ensures-answer : {A : Type 0} {e : Env} {P : A → Type 0} {q : Questions A} → EnvSound e → (n : ℕ) → Ensures e P q → answer e n q ≡ out_of_scope → ⊥
+ensures-answer {e = e} {P = P} {q = q} g n h = each-answers e g n P q h.each

@@ -65,8 +65,15 @@ guide-sound zs t vs us w e h =
 lacks-put : (s : ℕ → Tree) (t : Tree) → lacks 0 (erased t) ≡ true → lacks 0 (erased (sub_written (lift s) t)) ≡ true
 lacks-put s t h = ap (lacks 0) (erased-sub (lift s) t ∙ sub-same (erased-lift s) (erased t)) ∙ lacks-sub (erasures s) (erased t) h
 
+-- what holds of both parts of a form, and of each
 pub two : {A B C D : Type 0} → A × B → C × D → (A × C) × (B × D)
 two h k = ((h.0, k.0), (h.1, k.1))
+
+pub first : {A B C D : Type 0} → (A × C) × (B × D) → A × B
+first h = (h.0.0, h.1.0)
+
+pub second : {A B C D : Type 0} → (A × C) × (B × D) → C × D
+second h = (h.0.1, h.1.1)
 
 module _ (zs : List Sort) where
   pub sound-sub : (t : ℕ → Tree) (vs us : List Sort) → GivesSound zs t vs us → (c : TreeClass) (e : Tree) → IsWritten c → Fits (within vs zs) c e → HasErasure e → Sound zs us c (sub_written t e)

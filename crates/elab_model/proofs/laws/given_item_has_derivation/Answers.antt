@@ -2,8 +2,8 @@ use Rattle.std.specs.Prelude.{◌≡◌}
 use Rattle.cdle_model.specs.Derivation.{bodies, signature}
 use Rattle.cdle_model.specs.Steps.{Joined}
 use Rattle.elab_model.specs.Soundness.{no_encodings}
-use Rattle.elab_model.proofs.GivenSound.{fit-none, like-equal, like-joined}
-use Rattle.elab_model.proofs.GivenDerived.{item-given}
+use Rattle.elab_model.proofs.Alike.{fit-none, like-equal, like-joined}
+use Rattle.elab_model.proofs.GivenItems.{item-given}
 use Rattle.elab_model.proofs.laws.given_item_has_derivation.Goals as goal
 
 pub returns : goal.returns
