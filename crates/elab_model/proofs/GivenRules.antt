@@ -112,14 +112,14 @@ module _ (e : Env) (g : EnvSound e) (f : Encodings) (w : EncodingsFit (item_sort
   -- ---- the parts of a rule
 
   infers : (c : List Entry) (t : Scoped) → TermLaw c t → ContextSound Xs c → SourceFits (V c) Xs terms t → Ensures e (T c t) (infer e f c t (term e f c t))
-  infers c t l hc h = ensures-then (l hc h None (span_of t) tt) (λ m x. without-given e g f R like c hc (H c) (λ o. o.0) (span_of t) (E t) m x)
+  infers c t l hc h = ensures-then (l hc h None (span_of t) tt) (λ m x. without-given e g f R like c hc (H c) (λ o. o.0) (span_of t) m x)
 
   checks : (c : List Entry) (t : Scoped) (a : Tree) → TermLaw c t → ContextSound Xs c → SourceFits (V c) Xs terms t → S c types a → Ensures e (U c t a) (check e f c t (term e f c t) a)
-  checks c t a l hc h x = ensures-then (l hc h (Some a) (span_of t) x) (λ m y. against-given e g f R like c hc (H c) (λ o. o.0) (span_of t) a (E t) m x y)
+  checks c t a l hc h x = ensures-then (l hc h (Some a) (span_of t) x) (λ m y. against-given e g f R like c hc (H c) (λ o. o.0) (span_of t) a m x y)
 
   starts : (c : List Entry) → ContextSound Xs c → (s : Span) (p : Tree) (m : Made) → M c p None m → Ensures e (SpineGiven e R c (H c) p) (started e f s m)
   starts c hc s p (checked t) h = absurd h
-  starts c hc s p (inferred t a) h = given (begins e g f R like c hc (H c) (λ o. o.0) s t a p h)
+  starts c hc s p (inferred t a) h = given (begins e g f R like c hc (H c) (λ o. o.0) s t a h)
   starts c hc s p (spine x) h = given h
 
   -- the head of an application, and then the argument
@@ -183,7 +183,7 @@ module _ (e : Env) (g : EnvSound e) (f : Encodings) (w : EncodingsFit (item_sort
 
   -- a spine begins with this term
   gives-start : (c : List Entry) → ContextSound Xs c → (p : Tree) (o : Option Tree) (s : Span) (t a : Tree) → TypedGiven e R c (H c) p (t, a) → Ensures e (M c p o) (gives (spine (starting s t a)))
-  gives-start c hc p o s t a h = given (begins e g f R like c hc (H c) (λ o. o.0) s t a p h)
+  gives-start c hc p o s t a h = given (begins e g f R like c hc (H c) (λ o. o.0) s t a h)
 
   -- what is compared: pure terms, guides
   pures : (c : List Entry) (a b : Tree) → Pure (V c) pure_terms a → Pure (V c) pure_terms b → SameClass Xs a b
@@ -341,11 +341,11 @@ module _ (e : Env) (g : EnvSound e) (f : Encodings) (w : EncodingsFit (item_sort
     term-given c (s_unclassed s x a t) hc h (Some g') z ha = headed (λ y i. let hy : Headed c g' y = heads-of c g' y ha i in
         ensures-binder all_of y (λ d b j. elam-checked s c t g' d b (subst (Headed c g') j hy) (term-given (term_of d ∷ c) t) hc h.0)
         (ensures-binder allt_of y (λ d b j. xlam-checked s c t g' d b (subst (Headed c g') j hy) (term-given (type_of d ∷ c) t) hc h.1) refused))
-    term-given c (s_app s t u) hc h a z ha = heads c t a z (term-given c t) hc h.0 (λ x hx. kept-given e g f R like c hc (H c) (λ o. o.0) z (span_of u) (E t) (E u) _ _ x hx
+    term-given c (s_app s t u) hc h a z ha = heads c t a z (term-given c t) hc h.0 (λ x hx. kept-given e g f R like c hc (H c) (λ o. o.0) z (span_of u) x hx
         (infers c u (term-given c u) hc h.1) (λ b hb. checks c u b (term-given c u) hc h.1 hb))
-    term-given c (s_eapp s t u) hc h a z ha = heads c t a z (term-given c t) hc h.0 (λ x hx. erased-given e g f R like c hc (H c) (λ o. o.0) z (span_of u) (E t) (E u) _ _ x hx
+    term-given c (s_eapp s t u) hc h a z ha = heads c t a z (term-given c t) hc h.0 (λ x hx. erased-given e g f R like c hc (H c) (λ o. o.0) z (span_of u) x hx
         (infers c u (term-given c u) hc h.1) (λ b hb. checks c u b (term-given c u) hc h.1 hb))
-    term-given c (s_tapp s t u) hc h a z ha = heads c t a z (term-given c t) hc h.0 (λ x hx. type-given e g f R like c hc (H c) (λ o. o.0) z (span_of u) (E t) (E u) _ x hx (kinded-given c u hc h.1))
+    term-given c (s_tapp s t u) hc h a z ha = heads c t a z (term-given c t) hc h.0 (λ x hx. type-given e g f R like c hc (H c) (λ o. o.0) z (span_of u) x hx (kinded-given c u hc h.1))
     term-given c (s_pair s t u) hc h None z ha = refused
     term-given c (s_pair s t u) hc h (Some g') z ha = binders s _ _ iota_of c g' ha (λ a b hb. ensures-then (checks c t a (term-given c t) hc h.0 (first hb.sound)) (λ x hx.
         ensures-deep s (put_written 0 x b) (ensures-then (checks c u (put_written 0 x b) (term-given c u) hc h.1 (sound-put Xs (V c) OfTerm x b types tt hx.0 (second hb.sound))) (λ y hy.

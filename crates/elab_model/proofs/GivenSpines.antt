@@ -13,7 +13,7 @@ use Rattle.cdle_model.specs.Substitution.{put_written}
 use Rattle.cdle_model.specs.Fitting.{entry_sorts}
 use Rattle.cdle_model.specs.HeadForms.{deepest}
 use Rattle.cdle_model.specs.Steps.{Chain, Joined, end}
-use Rattle.cdle_model.specs.Derivation.{Entry, Item, bodies, a_term, a_type, a_kind, Has, converted, signature, AreDerived}
+use Rattle.cdle_model.specs.Derivation.{Entry, Item, Judgement, bodies, a_term, a_type, a_kind, Has, converted, signature, AreDerived}
 use Rattle.cdle_model.proofs.Lists.{get-left, get-snoc}
 use Rattle.cdle_model.proofs.Rewriting.{linked-join}
 use Rattle.cdle_model.proofs.Inversion.{in_pi, in_all}
@@ -128,6 +128,10 @@ pub record IsLike (f : Encodings) (R : Tree → Tree → Type 0) : Type 0 where
   pub lowers : (p q : Tree) → R p q → R (lowered p) (lowered q)
   pub encodings : (n : ℕ) (p : Tree) → f n ≡ Some p → R (name n) p
 
+-- a judgement of Core over the erased context
+abbrev pub Derives : Env → List Entry → Judgement → Tree → Tree → Type 0
+Derives e c j t a = Has (signature e.items) j (erased_context c) t a
+
 -- ---- what is known of what is given, over a context; its erasure is like p
 
 module _ (e : Env) (R : Tree → Tree → Type 0) (c : List Entry) (H : Type 0) where
@@ -136,16 +140,16 @@ module _ (e : Env) (R : Tree → Tree → Type 0) (c : List Entry) (H : Type 0) 
 
   -- a term and its type, a term against a type, a type and its kind, a kind
   abbrev pub TypedGiven : Tree → Typed → Type 0
-  TypedGiven p x = Fit terms x.0 × R (erased x.0) p × Fit types x.1 × (H → Has (signature e.items) a_term (erased_context c) x.0 (erased x.1) × Has (signature e.items) a_type (erased_context c) x.1 star)
+  TypedGiven p x = Fit terms x.0 × R (erased x.0) p × Fit types x.1 × (H → Derives e c a_term x.0 (erased x.1) × Derives e c a_type x.1 star)
 
   abbrev pub TermGiven : Tree → Tree → Tree → Type 0
-  TermGiven p a t = Fit terms t × R (erased t) p × (H → Has (signature e.items) a_type (erased_context c) a star → Has (signature e.items) a_term (erased_context c) t (erased a))
+  TermGiven p a t = Fit terms t × R (erased t) p × (H → Derives e c a_type a star → Derives e c a_term t (erased a))
 
   abbrev pub KindedGiven : Tree → Typed → Type 0
-  KindedGiven p x = Fit types x.0 × R (erased x.0) p × Fit kinds x.1 × (H → Has (signature e.items) a_type (erased_context c) x.0 (erased x.1) × Has (signature e.items) a_kind (erased_context c) x.1 star)
+  KindedGiven p x = Fit types x.0 × R (erased x.0) p × Fit kinds x.1 × (H → Derives e c a_type x.0 (erased x.1) × Derives e c a_kind x.1 star)
 
   abbrev pub KindGiven : Tree → Tree → Type 0
-  KindGiven p k = Fit kinds k × R (erased k) p × (H → Has (signature e.items) a_kind (erased_context c) k star)
+  KindGiven p k = Fit kinds k × R (erased k) p × (H → Derives e c a_kind k star)
 
   -- a spine so far
   pub record SpineGiven (p : Tree) (s : Spine) : Type 0 where
@@ -155,7 +159,7 @@ module _ (e : Env) (R : Tree → Tree → Type 0) (c : List Entry) (H : Type 0) 
         → Fit terms (fill_written f s.term) × R (erased (fill_written f s.term)) p × Fit types (fill_written f s.type)
     pub kinds_sound : (f : Types) → Agrees (found_in s.solution) f → ((n : ℕ) → n < length s.kinds → Fit types (f n)) → (n : ℕ) (k : Tree) → slice_get s.kinds n ≡ Some k → Fit kinds (fill_written f k)
     pub has : H → SpineHas (signature e.items) (erased_context c) s.kinds (found_in s.solution) s.term s.type
-    pub kinded : H → (n : ℕ) (a : Tree) → found_in s.solution n ≡ Some a → (k : Tree) × Has (signature e.items) a_type (erased_context c) a k
+    pub kinded : H → (n : ℕ) (a : Tree) → found_in s.solution n ≡ Some a → (k : Tree) × Derives e c a_type a k
 
   -- what a term's rule gives, whether a type is asked for or not
   abbrev CheckedGiven : Tree → Option Tree → Tree → Type 0
@@ -206,7 +210,7 @@ module _ (e : Env) (g : EnvSound e) (c : List Entry) where
   pub head-whole : (d : Bool) (a b : Tree) → IsHead e d a b → Sound (item_sorts e.items) (entry_sorts c) types a → Sound (item_sorts e.items) (entry_sorts c) types b
   head-whole d a b i h = sound-chain (item_sorts e.items) (unfolds d) (unfolds-sound e g d) (entry_sorts c) (chain d a b i) h
 
-  pub head-kind : (d : Bool) (a b k : Tree) → AreDerived e.items → IsHead e d a b → Has (signature e.items) a_type (erased_context c) a k → Has (signature e.items) a_type (erased_context c) b k
+  pub head-kind : (d : Bool) (a b k : Tree) → AreDerived e.items → IsHead e d a b → Derives e c a_type a k → Derives e c a_type b k
   head-kind d a b k v i h =
       chain-kind (signature e.items) (items-closed e.items g.items) (unfolds d) (bodies-signed e.items g.items (kept_names e d)) (bodies-kinded e.items v (kept_names e d)) (erased_context c) k (chain d a b i) h
 
@@ -216,6 +220,9 @@ module _ (e : Env) (g : EnvSound e) (c : List Entry) where
 -- ---- the steps of spines
 
 module _ (e : Env) (g : EnvSound e) (f : Encodings) (R : Tree → Tree → Type 0) (like : IsLike f R) (c : List Entry) (hc : ContextSound (item_sorts e.items) c) (H : Type 0) (v : H → AreDerived e.items) where
+  abbrev Xs : List Sort
+  Xs = item_sorts e.items
+
   abbrev Is : List Item
   Is = signature e.items
 
@@ -229,7 +236,7 @@ module _ (e : Env) (g : EnvSound e) (f : Encodings) (R : Tree → Tree → Type 
   V = entry_sorts c
 
   abbrev S : TreeClass → Tree → Type 0
-  S = Sound (item_sorts e.items) V
+  S = Sound Xs V
 
   abbrev L : Tree → Spine → Type 0
   L = SpineGiven e R c H
@@ -240,12 +247,19 @@ module _ (e : Env) (g : EnvSound e) (f : Encodings) (R : Tree → Tree → Type 
   abbrev U : Tree → Tree → Tree → Type 0
   U = TermGiven e R c H
 
+  -- a term, or a type, with the unknowns of a spine, and what stands of it
+  abbrev Open : Spine → Judgement → Tree → Tree → Type 0
+  Open s = HasOpen Is D s.kinds (found_in s.solution)
+
+  abbrev SpineIs : Spine → Tree → Tree → Type 0
+  SpineIs s = SpineHas Is D s.kinds (found_in s.solution)
+
   -- a type that has a kind
   abbrev HasKind : Tree → Type 0
-  HasKind a = (k : Tree) × Has Is a_type D a k
+  HasKind a = (k : Tree) × Derives e c a_type a k
 
   whole : (k : TreeClass) (t : Tree) → S k t → (t' : Types) → fill_written t' t ≡ t
-  whole k t h t' = fits-whole (within V (item_sorts e.items)) k t' t h.0
+  whole k t h t' = fits-whole (within V Xs) k t' t h.0
 
   some-sound : (os : Solution) → ((n : ℕ) (a : Tree) → found_in os n ≡ Some a → S types a) → (n : ℕ) → S types (some_types os n)
   some-sound os h n = by_found (found_in os n) (h n)
@@ -254,8 +268,8 @@ module _ (e : Env) (g : EnvSound e) (f : Encodings) (R : Tree → Tree → Type 
       by_found (Some a) k = k a refl
       by_found None k = ((refl, refl), (tt, tt))
 
-  pub begins : (l : Span) (t a p : Tree) → T p (t, a) → L p (starting l t a)
-  begins l t a p h = record {
+  pub begins : {p : Tree} (l : Span) (t a : Tree) → T p (t, a) → L p (starting l t a)
+  begins l t a h = record {
     lengths = refl;
     solved = λ n b j. absurd (grind arith);
     sound = λ t' x y. rw (whole terms t h.0 t', whole types a h.2 t') (h.0, h.1, h.2);
@@ -276,21 +290,21 @@ module _ (e : Env) (g : EnvSound e) (f : Encodings) (R : Tree → Tree → Type 
   kind-snoc ks k l n t h m (inl x) = h n l x
   kind-snoc ks k l n t h m (inr x) = rw (← x.1) m
 
-  left-out : (p : Tree) (s : Spine) (k b : Tree) → L p s → s.type ≡ allt k b → L p (spine_left_out s k b)
-  left-out p s k b h i = record {
+  left-out : {p k b : Tree} {s : Spine} → L p s → s.type ≡ allt k b → L p (spine_left_out s k b)
+  left-out {k = k} {b = b} {s = s} h i = record {
     lengths = length-append s.solution (None ∷ []) ∙ ap (λ n. n + 1) h.lengths ∙ sym more;
     solved = λ n a j. h.solved n a (found-snoc s.solution n a j);
     sound = λ t x y.
         let (st, j, a) = h.sound t (fewer t x) (λ n m. y n (omega (arith, more))) in
         let u : S types (t (length s.kinds)) = y (length s.kinds) (omega (arith, more)) in
         let v : S types (allt (fill_written t k) (fill_written (above t) b)) = subst (λ z. S types (fill_written t z)) i a in
-        (two st u, j, rw (fill_written-put t (leaf (unknown (length s.kinds))) b) (sound-put (item_sorts e.items) V OfType (t (length s.kinds)) (fill_written (above t) b) types tt u (second v)));
+        (two st u, j, rw (fill_written-put t (leaf (unknown (length s.kinds))) b) (sound-put Xs V OfType (t (length s.kinds)) (fill_written (above t) b) types tt u (second v)));
     kinds_sound = λ t x y n l j.
         let y' : (n : ℕ) → n < length s.kinds → S types (t n) = λ n o. y n (omega (arith, more)) in
         let v : S types (allt (fill_written t k) (fill_written (above t) b)) = subst (λ z. S types (fill_written t z)) i (h.sound t (fewer t x) y').2 in
         kind-snoc s.kinds k l n t (h.kinds_sound t (fewer t x) y') (first v) (get-snoc s.kinds k l n j);
     has = λ o. spine-found Is D (s.kinds ++ (k ∷ [])) (found_in s.solution) (found_in (s.solution ++ (None ∷ []))) _ _ fewer
-        (spine-left_out Is closed D s.kinds (found_in s.solution) s.term k b (subst (SpineHas Is D s.kinds (found_in s.solution) s.term) i (h.has o)));
+        (spine-left_out Is closed D s.kinds (found_in s.solution) s.term k b (subst (SpineIs s s.term) i (h.has o)));
     kinded = λ o n a j. h.kinded o n a (found-snoc s.solution n a j);
   }
     where
@@ -300,28 +314,28 @@ module _ (e : Env) (g : EnvSound e) (f : Encodings) (R : Tree → Tree → Type 
       fewer : (t : Types) → Agrees (found_in (s.solution ++ (None ∷ []))) t → Agrees (found_in s.solution) t
       fewer t x n a m = x n a (found-left s.solution (None ∷ []) n a m)
 
-  leaves : (w : Span) (p : Tree) (s : Spine) (k b : Tree) → L p s → s.type ≡ allt k b → Ensures e (L p) (leaves_out w s k b)
-  leaves w p s k b h i = so-far w (spine_left_out s k b) (left-out p s k b h i)
+  leaves : {p k b : Tree} {s : Spine} (w : Span) → L p s → s.type ≡ allt k b → Ensures e (L p) (leaves_out w s k b)
+  leaves {k = k} {b = b} {s = s} w h i = so-far w (spine_left_out s k b) (left-out h i)
 
   -- ---- head forms
 
-  at-head : (p : Tree) (s : Spine) (b : Tree) → IsHead e false s.type b → L p s → L p (record s { type = b })
-  at-head p s b i h = record {
+  at-head : {p b : Tree} {s : Spine} → IsHead e false s.type b → L p s → L p (record s { type = b })
+  at-head {b = b} {s = s} i h = record {
     lengths = h.lengths;
     solved = h.solved;
     sound = λ t x y. let (st, j, a) = h.sound t x y in
-        (st, j, sound-chain (item_sorts e.items) (unfolds e g c false) (unfolds-sound e g false) V (chain-filled (bodies Is) (unfolds e g c false) (env-signed e g false) t (chain e g c false s.type b i)) a);
+        (st, j, sound-chain Xs (unfolds e g c false) (unfolds-sound e g false) V (chain-filled (bodies Is) (unfolds e g c false) (env-signed e g false) t (chain e g c false s.type b i)) a);
     kinds_sound = h.kinds_sound;
     has = λ o. spine-headed Is closed D (unfolds e g c false) (bodies-signed e.items g.items (kept_names e false)) (bodies-kinded e.items (v o) (kept_names e false)) s.kinds (found_in s.solution) s.term s.type b
         (chain e g c false s.type b i) (h.has o);
     kinded = h.kinded;
   }
 
-  brought-given : (n : ℕ) (w : Span) (typed : Bool) (p : Tree) (s : Spine) → L p s → Ensures e (L p) (brought n w typed s)
-  brought-given zero w typed p s h = stopped
-  brought-given (suc n) w typed p s h = headed (λ b i.
-      let hr : L p (record s { type = b }) = at-head p s b i h in
-      ensures-if typed (λ _. given hr) (λ _. ensures-binder allt_of b (λ k d j. ensures-then (leaves w p (record s { type = b }) k d hr j) (λ s' h'. brought-given n w typed p s' h')) (given hr)))
+  brought-given : {p : Tree} (n : ℕ) (w : Span) (typed : Bool) (s : Spine) → L p s → Ensures e (L p) (brought n w typed s)
+  brought-given zero w typed s h = stopped
+  brought-given {p = p} (suc n) w typed s h = headed (λ b i.
+      let hr : L p (record s { type = b }) = at-head i h in
+      ensures-if typed (λ _. given hr) (λ _. ensures-binder allt_of b (λ k d j. ensures-then (leaves w hr j) (brought-given n w typed)) (given hr)))
 
   -- ---- instances
 
@@ -345,8 +359,8 @@ module _ (e : Env) (g : EnvSound e) (f : Encodings) (R : Tree → Tree → Type 
       let t : Types = some_types os in
       let y : S types (fill_written t (solved_in os p)) = rw (fill-so_far (found_in os) t (λ n b m. whole types b (h.solved n b m)) (some-agrees os) p) (h.sound t (some-agrees os) (some-sound os h.solved)) in
       let all = solved-all (λ b. S types b × (H → HasKind b)) 0 os (solved_in os p) a s j (λ n b m. (h.solved n b m, λ o. h.kinded o n b m))
-      (λ n b m. let q = part-sound (item_sorts e.items) V t (some-sound os h.solved) (solved_in os p) a y.0 x n b m in
-      (q, λ o. part-has Is closed (within V (item_sorts e.items)) D (solved_in os p) a (hk o).0 (hk o).1 n b m q.0)) in
+      (λ n b m. let q = part-sound Xs V t (some-sound os h.solved) (solved_in os p) a y.0 x n b m in
+      (q, λ o. part-has Is closed (within V Xs) D (solved_in os p) a (hk o).0 (hk o).1 n b m q.0)) in
       let keep : (n : ℕ) (b : Tree) → found_in os n ≡ Some b → found_in s n ≡ Some b = solved-keeps 0 os (solved_in os p) a s j in
       record {
         lengths = solved-length 0 os (solved_in os p) a s j;
@@ -374,8 +388,8 @@ module _ (e : Env) (g : EnvSound e) (f : Encodings) (R : Tree → Tree → Type 
   fits w l os p a h x hk u = by_instance os p a a h x hk end u (headed (λ b i. by_instance os p a b h (head-whole e g c true a b i x)
       (λ o. ((hk o).0, head-kind e g c true a b (hk o).0 (v o) i (hk o).1)) (head-joined e g c true a b i) u refused))
 
-  refreshed-given : (p : Tree) (s : Spine) (os : Solution) (x a : Tree) → L p s → Fitted s.solution x a os → L p (filled_spine os s)
-  refreshed-given p s os x a h k = record {
+  refreshed-given : {p x a : Tree} {s : Spine} {os : Solution} → L p s → Fitted s.solution x a os → L p (filled_spine os s)
+  refreshed-given {s = s} {os = os} h k = record {
     lengths = k.lengths ∙ h.lengths;
     solved = k.solved;
     sound = λ t m n. let (st, i, b) = h.sound t (more t m) n in (st, i, rw (filled t m) b);
@@ -393,11 +407,11 @@ module _ (e : Env) (g : EnvSound e) (f : Encodings) (R : Tree → Tree → Type 
   -- ---- arguments
 
   -- a spine applied to an argument
-  applied-given : (j : Binary) (p r u b : Tree) (s : Spine) → L p s
+  applied-given : {p r : Tree} {s : Spine} (j : Binary) (u b : Tree) → L p s
       → ((t : Types) → S terms (fill_written t s.term) → R (erased (fill_written t s.term)) p → S types (fill_written t s.type)
       → S terms (fill_written t (binary j s.term u)) × R (erased (fill_written t (binary j s.term u))) r × S types (fill_written t (put_written 0 u b)))
-      → (H → SpineHas Is D s.kinds (found_in s.solution) (binary j s.term u) (put_written 0 u b)) → L r (applied_spine j u b s)
-  applied-given j p r u b s h k l = record {
+      → (H → SpineIs s (binary j s.term u) (put_written 0 u b)) → L r (applied_spine j u b s)
+  applied-given j u b h k l = record {
     lengths = h.lengths;
     solved = h.solved;
     sound = λ t x y. let (st, i, a) = h.sound t x y in k t st i a;
@@ -406,80 +420,78 @@ module _ (e : Env) (g : EnvSound e) (f : Encodings) (R : Tree → Tree → Type 
     kinded = h.kinded;
   }
 
-  applied-kept : (p q : Tree) (s : Spine) (a b u : Tree) → L p s → s.type ≡ pi a b → S terms u → R (erased u) q → (H → HasOpen Is D s.kinds (found_in s.solution) a_term u a) → L (apply of_pure p q) (applied_spine app_of u b s)
-  applied-kept p q s a b u h i k j o = applied-given app_of p (apply of_pure p q) u b s h
+  applied-kept : {p q : Tree} (s : Spine) (a b u : Tree) → L p s → s.type ≡ pi a b → S terms u → R (erased u) q → (H → Open s a_term u a) → L (apply of_pure p q) (applied_spine app_of u b s)
+  applied-kept s a b u h i k j o = applied-given app_of u b h
       (λ t st l z. let v : S types (pi (fill_written t a) (fill_written (above t) b)) = subst (λ z. S types (fill_written t z)) i z in
-      rw (fill_written-put t u b, whole terms u k t) (two st k, like.applications of_pure _ _ _ _ l j, sound-put (item_sorts e.items) V OfTerm u (fill_written (above t) b) types tt k (second v)))
-      (λ x. spine-kept Is closed D s.kinds (found_in s.solution) s.term u a b (subst (SpineHas Is D s.kinds (found_in s.solution) s.term) i (h.has x)) (o x))
+      rw (fill_written-put t u b, whole terms u k t) (two st k, like.applications of_pure _ _ _ _ l j, sound-put Xs V OfTerm u (fill_written (above t) b) types tt k (second v)))
+      (λ x. spine-kept Is closed D s.kinds (found_in s.solution) s.term u a b (subst (SpineIs s s.term) i (h.has x)) (o x))
 
-  applied-erased : (p q : Tree) (s : Spine) (a b u : Tree) → L p s → s.type ≡ all a b → S terms u → R (erased u) q → (H → HasOpen Is D s.kinds (found_in s.solution) a_term u a) → L p (applied_spine eapp_of u b s)
-  applied-erased p q s a b u h i k j o = applied-given eapp_of p p u b s h
+  applied-erased : {p q : Tree} (s : Spine) (a b u : Tree) → L p s → s.type ≡ all a b → S terms u → R (erased u) q → (H → Open s a_term u a) → L p (applied_spine eapp_of u b s)
+  applied-erased s a b u h i k j o = applied-given eapp_of u b h
       (λ t st l z. let v : S types (all (fill_written t a) (fill_written (above t) b)) = subst (λ z. S types (fill_written t z)) i z in
-      rw (fill_written-put t u b, whole terms u k t) (two st k, l, sound-put (item_sorts e.items) V OfTerm u (fill_written (above t) b) types tt k (second v)))
-      (λ x. spine-erased Is closed D s.kinds (found_in s.solution) s.term u a b (subst (SpineHas Is D s.kinds (found_in s.solution) s.term) i (h.has x)) (o x))
+      rw (fill_written-put t u b, whole terms u k t) (two st k, l, sound-put Xs V OfTerm u (fill_written (above t) b) types tt k (second v)))
+      (λ x. spine-erased Is closed D s.kinds (found_in s.solution) s.term u a b (subst (SpineIs s s.term) i (h.has x)) (o x))
 
-  applied-type : (p : Tree) (s : Spine) (a b u : Tree) → L p s → s.type ≡ allt a b → S types u → (H → HasOpen Is D s.kinds (found_in s.solution) a_type u a) → L p (applied_spine tapp_of u b s)
-  applied-type p s a b u h i k o = applied-given tapp_of p p u b s h
+  applied-type : {p : Tree} (s : Spine) (a b u : Tree) → L p s → s.type ≡ allt a b → S types u → (H → Open s a_type u a) → L p (applied_spine tapp_of u b s)
+  applied-type s a b u h i k o = applied-given tapp_of u b h
       (λ t st l z. let v : S types (allt (fill_written t a) (fill_written (above t) b)) = subst (λ z. S types (fill_written t z)) i z in
-      rw (fill_written-put t u b, whole types u k t) (two st k, l, sound-put (item_sorts e.items) V OfType u (fill_written (above t) b) types tt k (second v)))
-      (λ x. spine-type Is closed D s.kinds (found_in s.solution) s.term u a b (subst (SpineHas Is D s.kinds (found_in s.solution) s.term) i (h.has x)) (o x))
+      rw (fill_written-put t u b, whole types u k t) (two st k, l, sound-put Xs V OfType u (fill_written (above t) b) types tt k (second v)))
+      (λ x. spine-type Is closed D s.kinds (found_in s.solution) s.term u a b (subst (SpineIs s s.term) i (h.has x)) (o x))
 
   -- a product over terms, whatever is put
   record IsProduct (b : Binder) : Type 0 where
     domain : (t : Types) (x y : Tree) → S types (fill_written t (bind b x y)) → S types (fill_written t x)
-    kinded : (t : Types) (x y : Tree) → Has Is a_type D (fill_written t (bind b x y)) star → Has Is a_type D (fill_written t x) star
+    kinded : (t : Types) (x y : Tree) → Derives e c a_type (fill_written t (bind b x y)) star → Derives e c a_type (fill_written t x) star
     solved : (os : Solution) (x y : Tree) → (z : Tree) × (solved_in os (bind b x y) ≡ bind b (solved_in os x) z)
 
-  pattern-of : (b : Binder) → IsProduct b → (p : Tree) (s : Spine) (x y : Tree) → L p s → s.type ≡ bind b x y → IsPattern s.solution x
-  pattern-of b d p s x y h i = record {
+  pattern-of : {b : Binder} {p x y : Tree} {s : Spine} → IsProduct b → L p s → s.type ≡ bind b x y → IsPattern s.solution x
+  pattern-of {x = x} {y = y} d h i = record {
     solved = h.solved;
     sound = λ t k l. d.domain t x y (subst (λ z. S types (fill_written t z)) i (h.sound t k (λ n m. l n)).2);
     kinded = h.kinded;
   }
 
-  pattern-whole : (os : Solution) (x : Tree) → IsPattern os x → has_unknown x ≡ false → S types x
-  pattern-whole os x h i = rw (whole-written (some_types os) x i) at (h.sound (some_types os) (some-agrees os) (some-sound os h.solved))
+  pattern-whole : {os : Solution} {x : Tree} → IsPattern os x → has_unknown x ≡ false → S types x
+  pattern-whole {os = os} {x = x} h i = rw (whole-written (some_types os) x i) at (h.sound (some_types os) (some-agrees os) (some-sound os h.solved))
 
   -- an argument that is inferred has the domain as its type, whatever is put
-  open-fits : (os s : Solution) (ks : List Tree) (x u a : Tree) → Fitted os x a s → S terms u → Has Is a_term D u (erased a) → HasOpen Is D ks (found_in s) a_term u (solved_in s x)
-  open-fits os s ks x u a k hu h t n o =
+  open-fits : {os s : Solution} {x a : Tree} (ks : List Tree) (u : Tree) → Fitted os x a s → S terms u → Derives e c a_term u (erased a) → HasOpen Is D ks (found_in s) a_term u (solved_in s x)
+  open-fits {s = s} {x = x} ks u k hu h t n o =
       rw (whole terms u hu t, fill-so_far (found_in s) t (λ n b m. whole types b (k.solved n b m)) o x) (converted h (k.joined t o))
 
-  argument-given : (b : Binder) (j : Binary) (w l : Span) (p q r : Tree) (inferring : Questions Typed) (checking : Tree → Questions Tree) (s : Spine) → IsProduct b
-      → ((s : Spine) (x y u : Tree) → L p s → s.type ≡ bind b x y → S terms u → R (erased u) q → (H → HasOpen Is D s.kinds (found_in s.solution) a_term u x) → L r (applied_spine j u y s))
+  argument-given : {q r p : Tree} {inferring : Questions Typed} {checking : Tree → Questions Tree} (b : Binder) (j : Binary) (w l : Span) (s : Spine) → IsProduct b
+      → ((s : Spine) (x y u : Tree) → L p s → s.type ≡ bind b x y → S terms u → R (erased u) q → (H → Open s a_term u x) → L r (applied_spine j u y s))
       → L p s → Ensures e (T q) inferring → ((a : Tree) → S types a → Ensures e (U q a) (checking a)) → Ensures e (L r) (argument w b j l inferring checking s)
-  argument-given b j w l p q r inferring checking s d apply-it h u m =
-      ensures-then (brought-given (suc deepest) w false p s h) (λ z hz. ensures-binder b z.type (λ x y i.
-      let pat : IsPattern z.solution x = pattern-of b d p z x y hz i in
+  argument-given {r = r} b j w l s d apply-it h u m =
+      ensures-then (brought-given (suc deepest) w false s h) (λ z hz. ensures-binder b z.type (λ x y i.
+      let pat : IsPattern z.solution x = pattern-of d hz i in
       ensures-if (has_unknown x)
       (λ _. ensures-then u (λ t ht. fits w l z.solution x t.1 pat ht.2 (λ o. (star, (ht.3 o).1)) (λ os k. so-far-then w (filled_spine os z) _ (by_solved z x y t.0 os i (d.solved os x y)
-      (λ y' i'. apply-it (filled_spine os z) (solved_in os x) y' t.0 (refreshed-given p z os x t.1 hz k) i' ht.0 ht.1 (λ o. open-fits z.solution os z.kinds x t.0 t.1 k ht.0 (ht.3 o).0))))))
-      (λ n. let hx = pattern-whole z.solution x pat n in ensures-then (m x hx) (λ t ht. so-far w (applied_spine j t y z) (apply-it z x y t hz i ht.0 ht.1
-      (λ o t' x' y'. rw (whole terms t ht.0 t', whole types x hx t') (ht.2 o (rw (whole types x hx t') at (d.kinded t' x y (subst (λ q. Has Is a_type D (fill_written t' q) star) i ((hz.has o).kinded t' x' y'))))))))))
+      (λ y' i'. apply-it (filled_spine os z) (solved_in os x) y' t.0 (refreshed-given hz k) i' ht.0 ht.1 (λ o. open-fits z.kinds t.0 k ht.0 (ht.3 o).0))))))
+      (λ n. let hx = pattern-whole pat n in ensures-then (m x hx) (λ t ht. so-far w (applied_spine j t y z) (apply-it z x y t hz i ht.0 ht.1
+      (λ o t' x' y'. rw (whole terms t ht.0 t', whole types x hx t') (ht.2 o (rw (whole types x hx t') at (d.kinded t' x y (subst (λ q. Derives e c a_type (fill_written t' q) star) i ((hz.has o).kinded t' x' y'))))))))))
       refused)
     where
       by_solved : (z : Spine) (x y t : Tree) (os : Solution) → z.type ≡ bind b x y → (y' : Tree) × (solved_in os (bind b x y) ≡ bind b (solved_in os x) y')
           → ((y' : Tree) → solved_in os z.type ≡ bind b (solved_in os x) y' → L r (applied_spine j t y' (filled_spine os z))) → Ensures e (L r) (applied_at w b j t (filled_spine os z))
       by_solved z x y t os i (y', i') k = ensures-is b (solved_in os z.type) (solved_in os x) y' _ _ (ap (solved_in os) i ∙ i') (so-far w (applied_spine j t y' (filled_spine os z)) (k y' (ap (solved_in os) i ∙ i')))
 
-  pub kept-given : (w l : Span) (p q : Tree) (inferring : Questions Typed) (checking : Tree → Questions Tree) (s : Spine)
+  pub kept-given : {p q : Tree} {inferring : Questions Typed} {checking : Tree → Questions Tree} (w l : Span) (s : Spine)
       → L p s → Ensures e (T q) inferring → ((a : Tree) → S types a → Ensures e (U q a) (checking a)) → Ensures e (L (apply of_pure p q)) (argument w pi_of app_of l inferring checking s)
-  kept-given w l p q inferring checking s = argument-given pi_of app_of w l p q (apply of_pure p q) inferring checking s
-      (record { domain = λ t x y h. first h; kinded = λ t x y h. (in_pi h).0; solved = λ os x y. (_, refl) }) (applied-kept p q)
+  kept-given w l s = argument-given pi_of app_of w l s (record { domain = λ t x y. first; kinded = λ t x y h. (in_pi h).0; solved = λ os x y. (_, refl) }) applied-kept
 
-  pub erased-given : (w l : Span) (p q : Tree) (inferring : Questions Typed) (checking : Tree → Questions Tree) (s : Spine)
+  pub erased-given : {p q : Tree} {inferring : Questions Typed} {checking : Tree → Questions Tree} (w l : Span) (s : Spine)
       → L p s → Ensures e (T q) inferring → ((a : Tree) → S types a → Ensures e (U q a) (checking a)) → Ensures e (L p) (argument w all_of eapp_of l inferring checking s)
-  erased-given w l p q inferring checking s = argument-given all_of eapp_of w l p q p inferring checking s
-      (record { domain = λ t x y h. first h; kinded = λ t x y h. (in_all h).0; solved = λ os x y. (_, refl) }) (applied-erased p q)
+  erased-given w l s = argument-given all_of eapp_of w l s (record { domain = λ t x y. first; kinded = λ t x y h. (in_all h).0; solved = λ os x y. (_, refl) }) applied-erased
 
-  pub type-given : (w l : Span) (p q : Tree) (kinding : Questions Typed) (s : Spine) → L p s → Ensures e (KindedGiven e R c H q) kinding → Ensures e (L p) (type_argument w l kinding s)
-  type-given w l p q kinding s h u =
-      headed (λ b i'. let z : Spine = record s { type = b } in let hz : L p z = at-head p s b i' h in
+  pub type-given : {p q : Tree} {kinding : Questions Typed} (w l : Span) (s : Spine) → L p s → Ensures e (KindedGiven e R c H q) kinding → Ensures e (L p) (type_argument w l kinding s)
+  type-given {p = p} w l s h u =
+      headed (λ b i'. let z : Spine = record s { type = b } in let hz : L p z = at-head i' h in
       ensures-binder allt_of b (λ x y i. ensures-then u (λ t ht. ensures-if (has_unknown x) (λ _. refused) (λ m.
       let k : S types (allt (fill_written (some_types z.solution) x) (fill_written (above (some_types z.solution)) y)) =
       subst (λ q. S types (fill_written (some_types z.solution) q)) i (hz.sound (some_types z.solution) (some-agrees z.solution) (λ n _. some-sound z.solution hz.solved n)).2 in
       let hx : S kinds x = rw (whole-written (some_types z.solution) x m) at (first k) in
-      compared (same-kinds (item_sorts e.items) V t.1 x ht.2 hx) (λ j. so-far w (applied_spine tapp_of t.0 y z) (applied-type p z x y t.0 hz i ht.0
+      compared (same-kinds Xs V t.1 x ht.2 hx) (λ j. so-far w (applied_spine tapp_of t.0 y z) (applied-type z x y t.0 hz i ht.0
       (λ o t' x' y'. rw (whole types t.0 ht.0 t', whole-written t' x m) (converted (ht.3 o).0 j)))))))
       refused)
 
@@ -487,23 +499,23 @@ module _ (e : Env) (g : EnvSound e) (f : Encodings) (R : Tree → Tree → Type 
 
   -- each solution has its kind
   abbrev AreKinded : Solution → List Tree → Solution → Type 0
-  AreKinded os ks bs = (n : ℕ) (k a : Tree) → slice_get ks n ≡ Some k → found_in bs n ≡ Some a → H → Has Is a_type D a (erased (solved_in os k))
+  AreKinded os ks bs = (n : ℕ) (k a : Tree) → slice_get ks n ≡ Some k → found_in bs n ≡ Some a → H → Derives e c a_type a (erased (solved_in os k))
 
   kinds-agree : {A : Type 0} {P : A → Type 0} {q : Questions A} (w : Span) (os bs : Solution) (ks : List Tree) → all_found bs ≡ true → ((n : ℕ) (a : Tree) → found_in bs n ≡ Some a → S types a) → (H → (n : ℕ) (a : Tree) → found_in bs n ≡ Some a → HasKind a)
       → ((n : ℕ) (k : Tree) → slice_get ks n ≡ Some k → S kinds (solved_in os k)) → (AreKinded os ks bs → Ensures e P q) → Ensures e P (kinds_agree e w c os bs ks q)
   kinds-agree w os (Some a ∷ bs) (k ∷ ks) i h hk l u =
-      ensures-then (kind-read e g a c w hc (h 0 a refl)) (λ x hx. ensures-deep w (solved_in os k) (compared (same-kinds (item_sorts e.items) V x (solved_in os k) hx.0 (l 0 k refl))
+      ensures-then (kind-read e g a c w hc (h 0 a refl)) (λ x hx. ensures-deep w (solved_in os k) (compared (same-kinds Xs V x (solved_in os k) hx.0 (l 0 k refl))
       (λ j. kinds-agree w os bs ks i (λ n. h (suc n)) (λ o n. hk o (suc n)) (λ n. l (suc n)) (λ z. u (λ n. more n (λ o. converted (hx.1 (v o) (hk o 0 a refl).0 (hk o 0 a refl).1) j) z)))))
     where
-      more : (n : ℕ) → (H → Has Is a_type D a (erased (solved_in os k))) → AreKinded os ks bs → (k' b : Tree) → slice_get (k ∷ ks) n ≡ Some k' → found_in (Some a ∷ bs) n ≡ Some b → H → Has Is a_type D b (erased (solved_in os k'))
+      more : (n : ℕ) → (H → Derives e c a_type a (erased (solved_in os k))) → AreKinded os ks bs → (k' b : Tree) → slice_get (k ∷ ks) n ≡ Some k' → found_in (Some a ∷ bs) n ≡ Some b → H → Derives e c a_type b (erased (solved_in os k'))
       more zero y z k' b m o = let i : k ≡ k' = grind arith in let j : a ≡ b = grind arith in rw (← i, ← j) y
       more (suc n) y z k' b m o = z n k' b m o
   kinds-agree w os (Some a ∷ bs) [] i h hk l u = u (λ n k a m o. absurd (grind arith))
   kinds-agree w os (None ∷ bs) ks i h hk l u = absurd (grind arith)
   kinds-agree w os [] ks i h hk l u = u (λ n k a m o. absurd (grind arith))
 
-  closes-given : {A : Type 0} {P : A → Type 0} {k : Tree → Tree → Questions A} (w : Span) (p : Tree) (s : Spine) → L p s → ((t a : Tree) → T p (t, a) → Ensures e P (k t a)) → Ensures e P (closes e w c s k)
-  closes-given w p s h u = ensures-if (all_found s.solution)
+  closes-given : {A : Type 0} {P : A → Type 0} {k : Tree → Tree → Questions A} {p : Tree} (w : Span) (s : Spine) → L p s → ((t a : Tree) → T p (t, a) → Ensures e P (k t a)) → Ensures e P (closes e w c s k)
+  closes-given w s h u = ensures-if (all_found s.solution)
       (λ i. let y : (n : ℕ) → n < length s.kinds → S types (so_far (found_in s.solution) n) = λ n m. let (a, j) = all-found s.solution i n (rw h.lengths m) in rw (so-far-is s.solution n a j) (h.solved n a j) in
       let (st, r, a) = h.sound (so_far (found_in s.solution)) (so-far-is s.solution) y in
       kinds-agree w s.solution s.solution s.kinds i h.solved h.kinded (h.kinds_sound (so_far (found_in s.solution)) (so-far-is s.solution) y)
@@ -516,35 +528,33 @@ module _ (e : Env) (g : EnvSound e) (f : Encodings) (R : Tree → Tree → Type 
       ))))
       (λ _. refused)
 
-  pub without-given : (w : Span) (p : Tree) (m : Made) → MadeGiven e R c H p None m → Ensures e (T p) (without_goal e w c m)
-  without-given w p (checked t) h = absurd h
-  without-given w p (inferred t a) h = given h
-  without-given w p (spine s) h = closes-given w p s h (λ t a k. given k)
+  pub without-given : {p : Tree} (w : Span) (m : Made) → MadeGiven e R c H p None m → Ensures e (T p) (without_goal e w c m)
+  without-given w (checked t) h = absurd h
+  without-given w (inferred t a) h = given h
+  without-given w (spine s) h = closes-given w s h (λ t a k. given k)
 
-  leading-given : (n : ℕ) (w : Span) (p : Tree) (s : Spine) → L p s → Ensures e (L p) (leading_out e n w s)
-  leading-given zero w p s h = stopped
-  leading-given (suc n) w p s h = ensures-binder allt_of s.type (λ k b i. ensures-then (leaves w p s k b h i) (λ z hz. leading-given n w p z hz)) (given h)
+  leading-given : {p : Tree} (n : ℕ) (w : Span) (s : Spine) → L p s → Ensures e (L p) (leading_out e n w s)
+  leading-given zero w s h = stopped
+  leading-given (suc n) w s h = ensures-binder allt_of s.type (λ k b i. ensures-then (leaves w h i) (leading-given n w)) (given h)
 
-  led-given : (w : Span) (a p : Tree) (s : Spine) → L p s → Ensures e (L p) (led e w a s)
-  led-given w a p s h = ensures-binder allt_of s.type (λ k b i. headed (λ z j. ensures-binder allt_of z (λ l d m. given h) (leading-given (suc deepest) w p s h))) (given h)
+  led-given : {p : Tree} (w : Span) (a : Tree) (s : Spine) → L p s → Ensures e (L p) (led e w a s)
+  led-given w a s h = ensures-binder allt_of s.type (λ k b i. headed (λ z j. ensures-binder allt_of z (λ l d m. given h) (leading-given (suc deepest) w s h))) (given h)
 
-  fitted-given : (w : Span) (a p : Tree) (s : Spine) → S types a → (H → HasKind a) → L p s → Ensures e (L p) (fitted e w a s)
-  fitted-given w a p s x hk h = ensures-if (all_found s.solution) (λ _. given h) (λ _. fits w w s.solution s.type a
-      (record { solved = h.solved; sound = λ t k l. (h.sound t k (λ n m. l n)).2; kinded = h.kinded }) x hk (λ os k. so-far w (filled_spine os s) (refreshed-given p s os s.type a h k)))
+  fitted-given : {p : Tree} (w : Span) (a : Tree) (s : Spine) → S types a → (H → HasKind a) → L p s → Ensures e (L p) (fitted e w a s)
+  fitted-given w a s x hk h = ensures-if (all_found s.solution) (λ _. given h) (λ _. fits w w s.solution s.type a
+      (record { solved = h.solved; sound = λ t k l. (h.sound t k (λ n m. l n)).2; kinded = h.kinded }) x hk (λ os k. so-far w (filled_spine os s) (refreshed-given h k)))
 
   -- H tells here that the type asked for has the kind `*`
-  spine-against : (w : Span) (a p : Tree) (s : Spine) → S types a → (H → Has Is a_type D a star) → L p s → Ensures e (U p a) (against e w c a (spine s))
-  spine-against w a p s x hk h = ensures-then (led-given w a p s h) (λ z hz. ensures-then (fitted-given w a p z x (λ o. (star, hk o)) hz)
-      (λ y hy. closes-given {k = λ t b. ask_same w w Mismatch (erased b) (erased a) (gives t)} w p y hy (λ t b k. compared (same-types (item_sorts e.items) V b a k.2 x) (λ j. given (k.0, k.1, λ o l. converted (k.3 o).0 j)))))
+  spine-against : {p : Tree} (w : Span) (a : Tree) (s : Spine) → S types a → (H → Derives e c a_type a star) → L p s → Ensures e (U p a) (against e w c a (spine s))
+  spine-against w a s x hk h = ensures-then (led-given w a s h) (λ z hz. ensures-then (fitted-given w a z x (λ o. (star, hk o)) hz) (λ y hy.
+      closes-given {k = λ t b. ask_same w w Mismatch (erased b) (erased a) (gives t)} w y hy (λ t b k. compared (same-types Xs V b a k.2 x) (λ j. given (k.0, k.1, λ o l. converted (k.3 o).0 j)))))
 
 -- a spine where more is known
-spine-under : (e : Env) (R : Tree → Tree → Type 0) (c : List Entry) (H H' : Type 0) (p : Tree) (s : Spine) → (H' → H) → SpineGiven e R c H p s → SpineGiven e R c H' p s
-spine-under e R c H H' p s k h = record { lengths = h.lengths; solved = h.solved; sound = h.sound; kinds_sound = h.kinds_sound; has = λ o. h.has (k o); kinded = λ o. h.kinded (k o) }
+spine-under : {e : Env} {R : Tree → Tree → Type 0} {c : List Entry} {H H' : Type 0} {p : Tree} {s : Spine} → (H' → H) → SpineGiven e R c H p s → SpineGiven e R c H' p s
+spine-under k h = record { lengths = h.lengths; solved = h.solved; sound = h.sound; kinds_sound = h.kinds_sound; has = λ o. h.has (k o); kinded = λ o. h.kinded (k o) }
 
-pub against-given : (e : Env) (g : EnvSound e) (f : Encodings) (R : Tree → Tree → Type 0) (like : IsLike f R) (c : List Entry) → ContextSound (item_sorts e.items) c → (H : Type 0) → (H → AreDerived e.items) → (w : Span) (a p : Tree) (m : Made)
-    → Sound (item_sorts e.items) (entry_sorts c) types a → MadeGiven e R c H p (Some a) m → Ensures e (TermGiven e R c H p a) (against e w c a m)
-against-given e g f R like c hc H v w a p (checked t) x h = given h
-against-given e g f R like c hc H v w a p (inferred t b) x h = compared (same-types (item_sorts e.items) (entry_sorts c) b a h.2 x) (λ j. given (h.0, h.1, λ o k. converted (h.3 o).0 j))
-against-given e g f R like c hc H v w a p (spine s) x h =
-    ensures-more (spine-against e g f R like c hc (H × Has (signature e.items) a_type (erased_context c) a star) (λ o. v o.0) w a p s x (λ o. o.1) (spine-under e R c H (H × Has (signature e.items) a_type (erased_context c) a star) p s (λ o. o.0) h))
-    (λ u z. (z.0, z.1, λ o k. z.2 (o, k) k))
+module _ (e : Env) (g : EnvSound e) (f : Encodings) (R : Tree → Tree → Type 0) (like : IsLike f R) (c : List Entry) (hc : ContextSound (item_sorts e.items) c) (H : Type 0) (v : H → AreDerived e.items) where
+  pub against-given : {p : Tree} (w : Span) (a : Tree) (m : Made) → Sound (item_sorts e.items) (entry_sorts c) types a → MadeGiven e R c H p (Some a) m → Ensures e (TermGiven e R c H p a) (against e w c a m)
+  against-given w a (checked t) x h = given h
+  against-given w a (inferred t b) x h = compared (same-types (item_sorts e.items) (entry_sorts c) b a h.2 x) (λ j. given (h.0, h.1, λ o k. converted (h.3 o).0 j))
+  against-given w a (spine s) x h = ensures-more (spine-against e g f R like c hc (H × Derives e c a_type a star) (λ o. v o.0) w a s x (λ o. o.1) (spine-under (λ o. o.0) h)) (λ u z. (z.0, z.1, λ o k. z.2 (o, k) k))
