@@ -49,7 +49,8 @@ refused = record { each = tt }
 pub stopped : {A : Type 0} {e : Env} {P : A → Type 0} {f : Span} → Ensures e P (deep_at f)
 stopped = record { each = tt }
 
-pub compared : {A : Type 0} {e : Env} {P : A → Type 0} {f p : Span} {w : Code} {a b : Tree} {q : Questions A} → SameClass (item_sorts e.items) a b → (Joined (bodies (signature e.items)) a b → Ensures e P q) → Ensures e P (ask_same f p w a b q)
+pub compared : {A : Type 0} {e : Env} {P : A → Type 0} {f p : Span} {w : Code} {a b : Tree} {q : Questions A}
+    → SameClass (item_sorts e.items) a b → (Joined (bodies (signature e.items)) a b → Ensures e P q) → Ensures e P (ask_same f p w a b q)
 compared s h = record { each = (s, λ j. (h j).each) }
 
 pub headed : {A : Type 0} {e : Env} {P : A → Type 0} {f p : Span} {d : Bool} {a : Tree} {k : Tree → Questions A} → ((b : Tree) → IsHead e d a b → Ensures e P (k b)) → Ensures e P (ask_head f p d a k)
@@ -107,7 +108,8 @@ ensures-binder f (apply c p q) u v = v
 ensures-binder f (binary j p q) u v = v
 
 -- where the form is known, the refusal does not come
-pub ensures-is : {A : Type 0} {e : Env} {P : A → Type 0} (f : Binder) (h x y : Tree) (k : Tree → Tree → Questions A) (r : Questions A) → h ≡ bind f x y → Ensures e P (k x y) → Ensures e P (binder_parts f h k r)
+pub ensures-is : {A : Type 0} {e : Env} {P : A → Type 0} (f : Binder) (h x y : Tree) (k : Tree → Tree → Questions A) (r : Questions A)
+    → h ≡ bind f x y → Ensures e P (k x y) → Ensures e P (binder_parts f h k r)
 ensures-is {e = e} {P = P} f h x y k r i u = rw i (by_test (Binder-discrete f f))
   where
     by_test : (d : Dec (f ≡ f)) → Ensures e P (elim d [ yes i ↦ k x y | no i ↦ r ])

@@ -22,22 +22,24 @@ use Rattle.elab_model.proofs.Alike.{like-equal, fit-none}
 
 module _ (e : Env) (f : Encodings) (g : EnvSound e) (v : AreDerived e.items) (w : EncodingsFit (item_sorts e.items) f) (R : Tree → Tree → Type 0) (like : IsLike f R) where
   pub item-ensured : (i : ScopedItem) → SourceItemFits (item_sorts e.items) i → Ensures e (IsItemOf R e f i) (item_of_source e f i)
-  item-ensured (s_def s x a t) h = stars e g f w R like (span_of a) [] a (kinded-given e g f w R like [] a tt h.0) (λ b hb. ensures-then (checked-given e g f w R like [] t b tt h.1 hb.0) (λ u hu. given (record {
-    sort = refl;
-    name = refl;
-    scoped = (hb.0.0, hu.0.0);
-    erasures = (hb.0.1, hu.0.1);
-    derived = (hb.2 (v, tt), hu.2 (v, tt) (hb.2 (v, tt)));
-    erases = (hb.1, hu.1);
-  })))
-  item-ensured (s_type s x k a) h = ensures-then (kind-given e g f w R like [] k tt h.0) (λ l hl. ensures-then (kinded-given e g f w R like [] a tt h.1) (λ b hb. compared (same-kinds (item_sorts e.items) [] b.1 l hb.2 hl.0) (λ j. given (record {
-    sort = refl;
-    name = refl;
-    scoped = (hl.0.0, hb.0.0);
-    erasures = (hl.0.1, hb.0.1);
-    derived = (hl.2 (v, tt), converted (hb.3 (v, tt)).0 j);
-    erases = (hl.1, hb.1);
-  }))))
+  item-ensured (s_def s x a t) h = stars e g f w R like (span_of a) [] a (kinded-given e g f w R like [] a tt h.0) (λ b hb.
+      ensures-then (checked-given e g f w R like [] t b tt h.1 hb.0) (λ u hu. given (record {
+        sort = refl;
+        name = refl;
+        scoped = (hb.0.0, hu.0.0);
+        erasures = (hb.0.1, hu.0.1);
+        derived = (hb.2 (v, tt), hu.2 (v, tt) (hb.2 (v, tt)));
+        erases = (hb.1, hu.1);
+      })))
+  item-ensured (s_type s x k a) h = ensures-then (kind-given e g f w R like [] k tt h.0) (λ l hl. ensures-then (kinded-given e g f w R like [] a tt h.1) (λ b hb.
+      compared (same-kinds (item_sorts e.items) [] b.1 l hb.2 hl.0) (λ j. given (record {
+        sort = refl;
+        name = refl;
+        scoped = (hl.0.0, hb.0.0);
+        erasures = (hl.0.1, hb.0.1);
+        derived = (hl.2 (v, tt), converted (hb.3 (v, tt)).0 j);
+        erases = (hl.1, hb.1);
+      }))))
   item-ensured (data_item s x ps cs) h = absurd h
 
   pub item-given : (i : ScopedItem) → SourceItemFits (item_sorts e.items) i → (n : ℕ) (x : Written) → answer e n (item_of_source e f i) ≡ found x → IsItemOf R e f i x

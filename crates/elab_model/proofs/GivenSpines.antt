@@ -24,6 +24,7 @@ use Rattle.elab_model.specs.declared.codes.Code.TheVariants.{Mismatch}
 use Rattle.source_model.specs.Source.{Span}
 use Rattle.elab_model.specs.HeadWritten.{Unfolding, all_but}
 use Rattle.elab_model.specs.HeadSteps.{AtHead}
+use Rattle.elab_model.specs.Unfoldings.{IsSigned, AreKinded}
 use Rattle.elab_model.specs.Unknowns.{Types, above, erased_types, fill, fill_written}
 use Rattle.elab_model.specs.OpenDerivations.{Agrees, so_far, HasOpen, SpineHas}
 use Rattle.elab_model.specs.SourceErasure.{Encodings}
@@ -157,7 +158,8 @@ module _ (e : Env) (R : Tree → Tree → Type 0) (c : List Entry) (H : Type 0) 
     pub solved : (n : ℕ) (a : Tree) → found_in s.solution n ≡ Some a → Fit types a
     pub sound : (f : Types) → Agrees (found_in s.solution) f → ((n : ℕ) → n < length s.kinds → Fit types (f n))
         → Fit terms (fill_written f s.term) × R (erased (fill_written f s.term)) p × Fit types (fill_written f s.type)
-    pub kinds_sound : (f : Types) → Agrees (found_in s.solution) f → ((n : ℕ) → n < length s.kinds → Fit types (f n)) → (n : ℕ) (k : Tree) → slice_get s.kinds n ≡ Some k → Fit kinds (fill_written f k)
+    pub kinds_sound : (f : Types) → Agrees (found_in s.solution) f → ((n : ℕ) → n < length s.kinds → Fit types (f n))
+        → (n : ℕ) (k : Tree) → slice_get s.kinds n ≡ Some k → Fit kinds (fill_written f k)
     pub has : H → SpineHas (signature e.items) (erased_context c) s.kinds (found_in s.solution) s.term s.type
     pub kinded : H → (n : ℕ) (a : Tree) → found_in s.solution n ≡ Some a → (k : Tree) × Derives e c a_type a k
 
@@ -210,16 +212,22 @@ module _ (e : Env) (g : EnvSound e) (c : List Entry) where
   pub head-whole : (d : Bool) (a b : Tree) → IsHead e d a b → Sound (item_sorts e.items) (entry_sorts c) types a → Sound (item_sorts e.items) (entry_sorts c) types b
   head-whole d a b i h = sound-chain (item_sorts e.items) (unfolds d) (unfolds-sound e g d) (entry_sorts c) (chain d a b i) h
 
+  unfolds-signed : (d : Bool) → IsSigned (bodies (signature e.items)) (unfolds d)
+  unfolds-signed d = bodies-signed e.items g.items (kept_names e d)
+
+  unfolds-kinded : (d : Bool) → AreDerived e.items → AreKinded (signature e.items) (unfolds d)
+  unfolds-kinded d v = bodies-kinded e.items v (kept_names e d)
+
   pub head-kind : (d : Bool) (a b k : Tree) → AreDerived e.items → IsHead e d a b → Derives e c a_type a k → Derives e c a_type b k
-  head-kind d a b k v i h =
-      chain-kind (signature e.items) (items-closed e.items g.items) (unfolds d) (bodies-signed e.items g.items (kept_names e d)) (bodies-kinded e.items v (kept_names e d)) (erased_context c) k (chain d a b i) h
+  head-kind d a b k v i h = chain-kind (signature e.items) (items-closed e.items g.items) (unfolds d) (unfolds-signed d) (unfolds-kinded d v) (erased_context c) k (chain d a b i) h
 
   pub head-joined : (d : Bool) (a b : Tree) → IsHead e d a b → Joined (bodies (signature e.items)) (erased a) (erased b)
-  head-joined d a b i = chain-joined (bodies (signature e.items)) (unfolds d) (bodies-signed e.items g.items (kept_names e d)) (chain d a b i)
+  head-joined d a b i = chain-joined (bodies (signature e.items)) (unfolds d) (unfolds-signed d) (chain d a b i)
 
 -- ---- the steps of spines
 
-module _ (e : Env) (g : EnvSound e) (f : Encodings) (R : Tree → Tree → Type 0) (like : IsLike f R) (c : List Entry) (hc : ContextSound (item_sorts e.items) c) (H : Type 0) (v : H → AreDerived e.items) where
+module _ (e : Env) (g : EnvSound e) (f : Encodings) (R : Tree → Tree → Type 0) (like : IsLike f R) (c : List Entry) (hc : ContextSound (item_sorts e.items) c)
+    (H : Type 0) (v : H → AreDerived e.items) where
   abbrev Xs : List Sort
   Xs = item_sorts e.items
 
@@ -326,7 +334,7 @@ module _ (e : Env) (g : EnvSound e) (f : Encodings) (R : Tree → Tree → Type 
     sound = λ t x y. let (st, j, a) = h.sound t x y in
         (st, j, sound-chain Xs (unfolds e g c false) (unfolds-sound e g false) V (chain-filled (bodies Is) (unfolds e g c false) (env-signed e g false) t (chain e g c false s.type b i)) a);
     kinds_sound = h.kinds_sound;
-    has = λ o. spine-headed Is closed D (unfolds e g c false) (bodies-signed e.items g.items (kept_names e false)) (bodies-kinded e.items (v o) (kept_names e false)) s.kinds (found_in s.solution) s.term s.type b
+    has = λ o. spine-headed Is closed D (unfolds e g c false) (unfolds-signed e g c false) (unfolds-kinded e g c false (v o)) s.kinds (found_in s.solution) s.term s.type b
         (chain e g c false s.type b i) (h.has o);
     kinded = h.kinded;
   }
@@ -353,11 +361,15 @@ module _ (e : Env) (g : EnvSound e) (f : Encodings) (R : Tree → Tree → Type 
     kinded : H → (n : ℕ) (b : Tree) → found_in s n ≡ Some b → HasKind b
     joined : (t : Types) → Agrees (found_in s) t → Joined (bodies Is) (erased a) (erased (fill_written t p))
 
+  -- what is found is filled with what it stands for
+  filled : (os : Solution) (a : Tree) (t : Types) → Agrees (found_in os) t → ((n : ℕ) (b : Tree) → found_in os n ≡ Some b → S types b) → fill_written t (solved_in os a) ≡ fill_written t a
+  filled os a t m h = fill-so_far (found_in os) t (λ n b i. whole types b (h n b i)) m a
+
   instance-fitted : (os : Solution) (p a : Tree) (s : Solution) → IsPattern os p → S types a → (H → HasKind a) → instance os p a ≡ Some s → Fitted os p a s
   instance-fitted os p a s h x hk i =
       let (j, l) = instance-is os p a s i in
       let t : Types = some_types os in
-      let y : S types (fill_written t (solved_in os p)) = rw (fill-so_far (found_in os) t (λ n b m. whole types b (h.solved n b m)) (some-agrees os) p) (h.sound t (some-agrees os) (some-sound os h.solved)) in
+      let y : S types (fill_written t (solved_in os p)) = rw (filled os p t (some-agrees os) h.solved) (h.sound t (some-agrees os) (some-sound os h.solved)) in
       let all = solved-all (λ b. S types b × (H → HasKind b)) 0 os (solved_in os p) a s j (λ n b m. (h.solved n b m, λ o. h.kinded o n b m))
       (λ n b m. let q = part-sound Xs V t (some-sound os h.solved) (solved_in os p) a y.0 x n b m in
       (q, λ o. part-has Is closed (within V Xs) D (solved_in os p) a (hk o).0 (hk o).1 n b m q.0)) in
@@ -369,13 +381,14 @@ module _ (e : Env) (g : EnvSound e) (f : Encodings) (R : Tree → Tree → Type 
         kinded = λ o n b m. (all n b m).1 o;
         joined = λ t' m.
             let q : fill_written t' (solved_in s (solved_in os p)) ≡ fill_written t' p =
-            fill-so_far (found_in s) t' (λ n b m. whole types b (all n b m).0) m (solved_in os p) ∙ fill-so_far (found_in os) t' (λ n b m. whole types b (h.solved n b m)) (λ n b o. m n b (keep n b o)) p in
+            filled s (solved_in os p) t' m (λ n b i. (all n b i).0) ∙ filled os p t' (λ n b o. m n b (keep n b o)) h.solved in
             let o : erased (fill_written t' p) ≡ erased a =
             ap erased (sym q) ∙ erased-fill t' (solved_in s (solved_in os p)) ∙ ap (fill (erased_types t')) l ∙ sym (erased-fill t' a) ∙ ap erased (whole types a x t') in
             subst (Joined (bodies Is) (erased a)) (sym o) end;
       }
 
-  by_instance : {A : Type 0} {P : A → Type 0} {k : Solution → Questions A} {r : Questions A} (os : Solution) (p a b : Tree) → IsPattern os p → S types b → (H → HasKind b) → Joined (bodies Is) (erased a) (erased b)
+  by_instance : {A : Type 0} {P : A → Type 0} {k : Solution → Questions A} {r : Questions A} (os : Solution) (p a b : Tree)
+      → IsPattern os p → S types b → (H → HasKind b) → Joined (bodies Is) (erased a) (erased b)
       → ((s : Solution) → Fitted os p a s → Ensures e P (k s)) → Ensures e P r → Ensures e P (if_solved (instance os p b) k r)
   by_instance {P = P} {k = k} {r = r} os p a b h x hl j u w = by_solved (instance os p b) (λ s i. instance-fitted os p b s h x hl i)
     where
@@ -392,17 +405,17 @@ module _ (e : Env) (g : EnvSound e) (f : Encodings) (R : Tree → Tree → Type 
   refreshed-given {s = s} {os = os} h k = record {
     lengths = k.lengths ∙ h.lengths;
     solved = k.solved;
-    sound = λ t m n. let (st, i, b) = h.sound t (more t m) n in (st, i, rw (filled t m) b);
+    sound = λ t m n. let (st, i, b) = h.sound t (more t m) n in (st, i, rw (fill-type t m) b);
     kinds_sound = λ t m. h.kinds_sound t (more t m);
-    has = λ o. record { typed = λ t n m. rw (filled t m) ((h.has o).typed t n (more t m)); kinded = λ t n m. rw (filled t m) ((h.has o).kinded t n (more t m)) };
+    has = λ o. record { typed = λ t n m. rw (fill-type t m) ((h.has o).typed t n (more t m)); kinded = λ t n m. rw (fill-type t m) ((h.has o).kinded t n (more t m)) };
     kinded = k.kinded;
   }
     where
       more : (t : Types) → Agrees (found_in os) t → Agrees (found_in s.solution) t
       more t m n b i = m n b (k.keeps n b i)
 
-      filled : (t : Types) → Agrees (found_in os) t → fill_written t (solved_in os s.type) ≡ fill_written t s.type
-      filled t m = fill-so_far (found_in os) t (λ n b i. whole types b (k.solved n b i)) m s.type
+      fill-type : (t : Types) → Agrees (found_in os) t → fill_written t (solved_in os s.type) ≡ fill_written t s.type
+      fill-type t m = filled os s.type t m k.solved
 
   -- ---- arguments
 
@@ -457,7 +470,7 @@ module _ (e : Env) (g : EnvSound e) (f : Encodings) (R : Tree → Tree → Type 
   -- an argument that is inferred has the domain as its type, whatever is put
   open-fits : {os s : Solution} {x a : Tree} (ks : List Tree) (u : Tree) → Fitted os x a s → S terms u → Derives e c a_term u (erased a) → HasOpen Is D ks (found_in s) a_term u (solved_in s x)
   open-fits {s = s} {x = x} ks u k hu h t n o =
-      rw (whole terms u hu t, fill-so_far (found_in s) t (λ n b m. whole types b (k.solved n b m)) o x) (converted h (k.joined t o))
+      rw (whole terms u hu t, filled s x t o k.solved) (converted h (k.joined t o))
 
   argument-given : {q r p : Tree} {inferring : Questions Typed} {checking : Tree → Questions Tree} (b : Binder) (j : Binary) (w l : Span) (s : Spine) → IsProduct b
       → ((s : Spine) (x y u : Tree) → L p s → s.type ≡ bind b x y → S terms u → R (erased u) q → (H → Open s a_term u x) → L r (applied_spine j u y s))
@@ -469,12 +482,15 @@ module _ (e : Env) (g : EnvSound e) (f : Encodings) (R : Tree → Tree → Type 
       (λ _. ensures-then u (λ t ht. fits w l z.solution x t.1 pat ht.2 (λ o. (star, (ht.3 o).1)) (λ os k. so-far-then w (filled_spine os z) _ (by_solved z x y t.0 os i (d.solved os x y)
       (λ y' i'. apply-it (filled_spine os z) (solved_in os x) y' t.0 (refreshed-given hz k) i' ht.0 ht.1 (λ o. open-fits z.kinds t.0 k ht.0 (ht.3 o).0))))))
       (λ n. let hx = pattern-whole pat n in ensures-then (m x hx) (λ t ht. so-far w (applied_spine j t y z) (apply-it z x y t hz i ht.0 ht.1
-      (λ o t' x' y'. rw (whole terms t ht.0 t', whole types x hx t') (ht.2 o (rw (whole types x hx t') at (d.kinded t' x y (subst (λ q. Derives e c a_type (fill_written t' q) star) i ((hz.has o).kinded t' x' y'))))))))))
+      (λ o t' x' y'. rw (whole terms t ht.0 t', whole types x hx t') (ht.2 o (rw (whole types x hx t') at
+      (d.kinded t' x y (subst (λ q. Derives e c a_type (fill_written t' q) star) i ((hz.has o).kinded t' x' y'))))))))))
       refused)
     where
       by_solved : (z : Spine) (x y t : Tree) (os : Solution) → z.type ≡ bind b x y → (y' : Tree) × (solved_in os (bind b x y) ≡ bind b (solved_in os x) y')
           → ((y' : Tree) → solved_in os z.type ≡ bind b (solved_in os x) y' → L r (applied_spine j t y' (filled_spine os z))) → Ensures e (L r) (applied_at w b j t (filled_spine os z))
-      by_solved z x y t os i (y', i') k = ensures-is b (solved_in os z.type) (solved_in os x) y' _ _ (ap (solved_in os) i ∙ i') (so-far w (applied_spine j t y' (filled_spine os z)) (k y' (ap (solved_in os) i ∙ i')))
+      by_solved z x y t os i (y', i') k =
+          let i'' = ap (solved_in os) i ∙ i' in
+          ensures-is b (solved_in os z.type) (solved_in os x) y' _ _ i'' (so-far w (applied_spine j t y' (filled_spine os z)) (k y' i''))
 
   pub kept-given : {p q : Tree} {inferring : Questions Typed} {checking : Tree → Questions Tree} (w l : Span) (s : Spine)
       → L p s → Ensures e (T q) inferring → ((a : Tree) → S types a → Ensures e (U q a) (checking a)) → Ensures e (L (apply of_pure p q)) (argument w pi_of app_of l inferring checking s)
@@ -498,35 +514,39 @@ module _ (e : Env) (g : EnvSound e) (f : Encodings) (R : Tree → Tree → Type 
   -- ---- the end
 
   -- each solution has its kind
-  abbrev AreKinded : Solution → List Tree → Solution → Type 0
-  AreKinded os ks bs = (n : ℕ) (k a : Tree) → slice_get ks n ≡ Some k → found_in bs n ≡ Some a → H → Derives e c a_type a (erased (solved_in os k))
+  abbrev HaveKinds : Solution → List Tree → Solution → Type 0
+  HaveKinds os ks bs = (n : ℕ) (k a : Tree) → slice_get ks n ≡ Some k → found_in bs n ≡ Some a → H → Derives e c a_type a (erased (solved_in os k))
 
-  kinds-agree : {A : Type 0} {P : A → Type 0} {q : Questions A} (w : Span) (os bs : Solution) (ks : List Tree) → all_found bs ≡ true → ((n : ℕ) (a : Tree) → found_in bs n ≡ Some a → S types a) → (H → (n : ℕ) (a : Tree) → found_in bs n ≡ Some a → HasKind a)
-      → ((n : ℕ) (k : Tree) → slice_get ks n ≡ Some k → S kinds (solved_in os k)) → (AreKinded os ks bs → Ensures e P q) → Ensures e P (kinds_agree e w c os bs ks q)
+  kinds-agree : {A : Type 0} {P : A → Type 0} {q : Questions A} (w : Span) (os bs : Solution) (ks : List Tree) → all_found bs ≡ true
+      → ((n : ℕ) (a : Tree) → found_in bs n ≡ Some a → S types a) → (H → (n : ℕ) (a : Tree) → found_in bs n ≡ Some a → HasKind a)
+      → ((n : ℕ) (k : Tree) → slice_get ks n ≡ Some k → S kinds (solved_in os k)) → (HaveKinds os ks bs → Ensures e P q) → Ensures e P (kinds_agree e w c os bs ks q)
   kinds-agree w os (Some a ∷ bs) (k ∷ ks) i h hk l u =
       ensures-then (kind-read e g a c w hc (h 0 a refl)) (λ x hx. ensures-deep w (solved_in os k) (compared (same-kinds Xs V x (solved_in os k) hx.0 (l 0 k refl))
       (λ j. kinds-agree w os bs ks i (λ n. h (suc n)) (λ o n. hk o (suc n)) (λ n. l (suc n)) (λ z. u (λ n. more n (λ o. converted (hx.1 (v o) (hk o 0 a refl).0 (hk o 0 a refl).1) j) z)))))
     where
-      more : (n : ℕ) → (H → Derives e c a_type a (erased (solved_in os k))) → AreKinded os ks bs → (k' b : Tree) → slice_get (k ∷ ks) n ≡ Some k' → found_in (Some a ∷ bs) n ≡ Some b → H → Derives e c a_type b (erased (solved_in os k'))
+      more : (n : ℕ) → (H → Derives e c a_type a (erased (solved_in os k))) → HaveKinds os ks bs
+          → (k' b : Tree) → slice_get (k ∷ ks) n ≡ Some k' → found_in (Some a ∷ bs) n ≡ Some b → H → Derives e c a_type b (erased (solved_in os k'))
       more zero y z k' b m o = let i : k ≡ k' = grind arith in let j : a ≡ b = grind arith in rw (← i, ← j) y
       more (suc n) y z k' b m o = z n k' b m o
   kinds-agree w os (Some a ∷ bs) [] i h hk l u = u (λ n k a m o. absurd (grind arith))
   kinds-agree w os (None ∷ bs) ks i h hk l u = absurd (grind arith)
   kinds-agree w os [] ks i h hk l u = u (λ n k a m o. absurd (grind arith))
 
-  closes-given : {A : Type 0} {P : A → Type 0} {k : Tree → Tree → Questions A} {p : Tree} (w : Span) (s : Spine) → L p s → ((t a : Tree) → T p (t, a) → Ensures e P (k t a)) → Ensures e P (closes e w c s k)
-  closes-given w s h u = ensures-if (all_found s.solution)
-      (λ i. let y : (n : ℕ) → n < length s.kinds → S types (so_far (found_in s.solution) n) = λ n m. let (a, j) = all-found s.solution i n (rw h.lengths m) in rw (so-far-is s.solution n a j) (h.solved n a j) in
-      let (st, r, a) = h.sound (so_far (found_in s.solution)) (so-far-is s.solution) y in
-      kinds-agree w s.solution s.solution s.kinds i h.solved h.kinded (h.kinds_sound (so_far (found_in s.solution)) (so-far-is s.solution) y)
-      (λ m. ensures-deep w (solved_in s.solution s.term) (u (solved_in s.solution s.term) (solved_in s.solution s.type) (
+  closes-given : {A : Type 0} {P : A → Type 0} {k : Tree → Tree → Questions A} {p : Tree} (w : Span) (s : Spine)
+      → L p s → ((t a : Tree) → T p (t, a) → Ensures e P (k t a)) → Ensures e P (closes e w c s k)
+  closes-given w s h u = ensures-if (all_found s.solution) (λ i.
+      let t : Types = so_far (found_in s.solution) in
+      let here : (n : ℕ) → n < length s.kinds → (a : Tree) × (found_in s.solution n ≡ Some a) = λ n m. all-found s.solution i n (rw h.lengths m) in
+      let y : (n : ℕ) → n < length s.kinds → S types (t n) = λ n m. let (a, j) = here n m in rw (so-far-is s.solution n a j) (h.solved n a j) in
+      let (st, r, a) = h.sound t (so-far-is s.solution) y in
+      kinds-agree w s.solution s.solution s.kinds i h.solved h.kinded (h.kinds_sound t (so-far-is s.solution) y) (λ m.
+      ensures-deep w (solved_in s.solution s.term) (u (solved_in s.solution s.term) (solved_in s.solution s.type) (
         st,
         r,
         a,
-        λ o. spine-ends Is D s.kinds (found_in s.solution) (so_far (found_in s.solution)) s.term s.type (so-far-is s.solution)
-            (λ n l j. let (a, x) = all-found s.solution i n (rw h.lengths (slice_get_within s.kinds n l j)) in rw (so-far-is s.solution n a x) (m n l a j x o)) (h.has o),
-      ))))
-      (λ _. refused)
+        λ o. spine-ends Is D s.kinds (found_in s.solution) t s.term s.type (so-far-is s.solution)
+            (λ n l j. let (a, x) = here n (slice_get_within s.kinds n l j) in rw (so-far-is s.solution n a x) (m n l a j x o)) (h.has o),
+      )))) (λ _. refused)
 
   pub without-given : {p : Tree} (w : Span) (m : Made) → MadeGiven e R c H p None m → Ensures e (T p) (without_goal e w c m)
   without-given w (checked t) h = absurd h
@@ -553,8 +573,12 @@ module _ (e : Env) (g : EnvSound e) (f : Encodings) (R : Tree → Tree → Type 
 spine-under : {e : Env} {R : Tree → Tree → Type 0} {c : List Entry} {H H' : Type 0} {p : Tree} {s : Spine} → (H' → H) → SpineGiven e R c H p s → SpineGiven e R c H' p s
 spine-under k h = record { lengths = h.lengths; solved = h.solved; sound = h.sound; kinds_sound = h.kinds_sound; has = λ o. h.has (k o); kinded = λ o. h.kinded (k o) }
 
-module _ (e : Env) (g : EnvSound e) (f : Encodings) (R : Tree → Tree → Type 0) (like : IsLike f R) (c : List Entry) (hc : ContextSound (item_sorts e.items) c) (H : Type 0) (v : H → AreDerived e.items) where
-  pub against-given : {p : Tree} (w : Span) (a : Tree) (m : Made) → Sound (item_sorts e.items) (entry_sorts c) types a → MadeGiven e R c H p (Some a) m → Ensures e (TermGiven e R c H p a) (against e w c a m)
+module _ (e : Env) (g : EnvSound e) (f : Encodings) (R : Tree → Tree → Type 0) (like : IsLike f R) (c : List Entry) (hc : ContextSound (item_sorts e.items) c)
+    (H : Type 0) (v : H → AreDerived e.items) where
+  pub against-given : {p : Tree} (w : Span) (a : Tree) (m : Made)
+      → Sound (item_sorts e.items) (entry_sorts c) types a → MadeGiven e R c H p (Some a) m → Ensures e (TermGiven e R c H p a) (against e w c a m)
   against-given w a (checked t) x h = given h
   against-given w a (inferred t b) x h = compared (same-types (item_sorts e.items) (entry_sorts c) b a h.2 x) (λ j. given (h.0, h.1, λ o k. converted (h.3 o).0 j))
-  against-given w a (spine s) x h = ensures-more (spine-against e g f R like c hc (H × Derives e c a_type a star) (λ o. v o.0) w a s x (λ o. o.1) (spine-under (λ o. o.0) h)) (λ u z. (z.0, z.1, λ o k. z.2 (o, k) k))
+  against-given w a (spine s) x h = ensures-more
+      (spine-against e g f R like c hc (H × Derives e c a_type a star) (λ o. v o.0) w a s x (λ o. o.1) (spine-under (λ o. o.0) h))
+      (λ u z. (z.0, z.1, λ o k. z.2 (o, k) k))

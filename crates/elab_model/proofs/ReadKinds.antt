@@ -68,17 +68,21 @@ module _ (e : Env) (g : EnvSound e) where
   same-parts c a k l = types-unique Is (items-closed e.items g.items).signed_bodies a_type (erased_context c) a k l
 
   pub kind-read : (a : Tree) (c : List Entry) (w : Span) → ContextSound (item_sorts e.items) c → S c types a → Ensures e (KindRead c a) (kind_of e w c a)
-  kind-read (var i) c w hc h = let (k, j) = type-entry c i h.0 in rw j (given ((entry-sound (item_sorts e.items) c i (type_of k) hc j).1, λ v l m. by_rule (var_type (erased-entry c i (type_of k) j))))
-  kind-read (name n) c w hc h = let (k, j) = type-item e.items n h.0 in rw j (given ((known-type e g (entry_sorts c) n k (slice_get e.items n) refl j).1, λ v l m. by_rule (name_type (known-item e g.items v n (type_of k) j))))
+  kind-read (var i) c w hc h = let (k, j) = type-entry c i h.0 in
+      rw j (given ((entry-sound (item_sorts e.items) c i (type_of k) hc j).1, λ v l m. by_rule (var_type (erased-entry c i (type_of k) j))))
+  kind-read (name n) c w hc h = let (k, j) = type-item e.items n h.0 in
+      rw j (given ((known-type e g (entry_sorts c) n k (slice_get e.items n) refl j).1, λ v l m. by_rule (name_type (known-item e g.items v n (type_of k) j))))
   kind-read (pi x y) c w hc h = given ((tt, tt), λ v l m. let (p, q) = in_pi m in by_rule (pi_rule p q))
   kind-read (all x y) c w hc h = given ((tt, tt), λ v l m. let (p, q) = in_all m in by_rule (all_rule p q))
   kind-read (allt x y) c w hc h = given ((tt, tt), λ v l m. let (p, q) = in_allt m in by_rule (allt_rule p q))
   kind-read (iota x y) c w hc h = given ((tt, tt), λ v l m. let (p, q) = in_iota m in by_rule (iota_rule p q))
   kind-read (eq x y) c w hc h = given ((tt, tt), λ v l m. by_rule eq_rule)
   kind-read (tlam x y) c w hc h = let hx : S c types x = first h in
-      ensures-then (kind-read y (term_of x ∷ c) w (hx, hc) (second h)) (λ k n. ensures-deep w (kpi x k) (given (two hx n.0, λ v l m. let (z, p, q) = in_tlam m in by_rule (tlam_rule p (n.1 v z q)))))
+      ensures-then (kind-read y (term_of x ∷ c) w (hx, hc) (second h)) (λ k n.
+      ensures-deep w (kpi x k) (given (two hx n.0, λ v l m. let (z, p, q) = in_tlam m in by_rule (tlam_rule p (n.1 v z q)))))
   kind-read (xtlam x y) c w hc h = let hx : S c kinds x = first h in
-      ensures-then (kind-read y (type_of x ∷ c) w (hx, hc) (second h)) (λ k n. ensures-deep w (kpit x k) (given (two hx n.0, λ v l m. let (z, p, q) = in_xtlam m in by_rule (xtlam_rule p (n.1 v z q)))))
+      ensures-then (kind-read y (type_of x ∷ c) w (hx, hc) (second h)) (λ k n.
+      ensures-deep w (kpit x k) (given (two hx n.0, λ v l m. let (z, p, q) = in_xtlam m in by_rule (xtlam_rule p (n.1 v z q)))))
   kind-read (at_ x t) c w hc h = ensures-then (kind-read x c w hc (first h)) (λ k n. ensures-binder kpi_of k (λ p q i.
       let hk : S c kinds (kpi p q) = subst (S c kinds) i n.0 in
       ensures-deep w (put_written 0 t q) (given (

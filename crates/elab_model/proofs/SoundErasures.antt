@@ -12,7 +12,7 @@ use Rattle.scope_model.specs.Scoped.{Reference, variable, item, cast, Scoped}
 use Rattle.elab_model.specs.ScopedForms.{letter, s_name, s_lam, s_elam, s_xlam, s_unclassed, s_app, s_eapp, s_tapp, s_pair, s_fst, s_snd, s_beta, s_rho, s_phi, s_delta, s_chi, s_flip, s_pi, s_all, s_allt, s_tlam, s_xtlam, s_iota, s_at, s_on, s_eq, s_star, s_kpi, s_kpit}
 use Rattle.elab_model.specs.SourceErasure.{Encodings, encoded, name_erased, source_erased}
 use Rattle.elab_model.specs.SourceClasses.{IsLeftOut, IsUse, SourceFits}
-use Rattle.elab_model.specs.Questions.{then, limited, Env}
+use Rattle.elab_model.specs.Questions.{Questions, then, limited, Env}
 use Rattle.elab_model.specs.Rules.{unless_used, erase}
 use Rattle.elab_model.specs.Soundness.{EncodingsFit}
 use Rattle.elab_model.proofs.Ensures.{Ensures, given, refused, ensures-then, ensures-if, ensures-deep}
@@ -39,20 +39,19 @@ module _ (e : Env) (f : Encodings) (xs : List Sort) (w : EncodingsFit xs f) wher
   type-name-erased vs (item n) h = type-item-erased vs n (f n) refl h
   type-name-erased vs (cast i) h = absurd h
 
-  -- the steps
-  one-part : (vs us : List Sort) (c d : TreeClass) (s : Span) (t r : Scoped) (m : Tree → Tree) → ((p : Tree) → Fits (within us xs) (erased_class c) p → Fits (within vs xs) (erased_class d) (m p)) → m (source_erased f t) ≡ source_erased f r
-      → Ensures e (ErasureOf us c t) (erase e f t) → Ensures e (ErasureOf vs d r) (then (erase e f t) (λ p. limited s (m p)))
-  one-part vs us c d s t r m u i h = ensures-then h (λ p x. ensures-deep s (m p) (given (u p x.0, ap m x.1 ∙ i)))
+  -- a form of one part, of two parts, and one under a binder that is not used
+  one-part : {F G : Tree → Type 0} {a : Tree} {q : Questions Tree} (s : Span) (m : Tree → Tree) → ((p : Tree) → F p → G (m p))
+      → Ensures e (λ p. F p × (p ≡ a)) q → Ensures e (λ p. G p × (p ≡ m a)) (then q (λ p. limited s (m p)))
+  one-part s m u h = ensures-then h (λ p x. ensures-deep s (m p) (given (u p x.0, ap m x.1)))
 
-  two-parts : (vs us : List Sort) (c c' d : TreeClass) (s : Span) (t u r : Scoped) (m : Tree → Tree → Tree)
-      → ((p q : Tree) → Fits (within vs xs) (erased_class c) p → Fits (within us xs) (erased_class c') q → Fits (within vs xs) (erased_class d) (m p q)) → m (source_erased f t) (source_erased f u) ≡ source_erased f r
-      → Ensures e (ErasureOf vs c t) (erase e f t) → Ensures e (ErasureOf us c' u) (erase e f u) → Ensures e (ErasureOf vs d r) (then (erase e f t) (λ p. then (erase e f u) (λ q. limited s (m p q))))
-  two-parts vs us c c' d s t u r m v i h k = ensures-then h (λ p x. ensures-then k (λ q y. ensures-deep s (m p q) (given (v p q x.0 y.0, ap₂ m x.1 y.1 ∙ i))))
+  two-parts : {F G K : Tree → Type 0} {a b : Tree} {q r : Questions Tree} (s : Span) (m : Tree → Tree → Tree) → ((p p' : Tree) → F p → G p' → K (m p p'))
+      → Ensures e (λ p. F p × (p ≡ a)) q → Ensures e (λ p. G p × (p ≡ b)) r → Ensures e (λ p. K p × (p ≡ m a b)) (then q (λ p. then r (λ p'. limited s (m p p'))))
+  two-parts s m u h k = ensures-then h (λ p x. ensures-then k (λ p' y. ensures-deep s (m p p') (given (u p p' x.0 y.0, ap₂ m x.1 y.1))))
 
-  lowered-part : (vs : List Sort) (y : Sort) (s : Span) (t r : Scoped) → lowered (source_erased f t) ≡ source_erased f r → Ensures e (ErasureOf (y ∷ vs) terms t) (erase e f t)
-      → Ensures e (ErasureOf vs terms r) (then (erase e f t) (λ p. unless_used (letter s) p (limited s (lowered p))))
-  lowered-part vs y s t r i h =
-      ensures-then h (λ p x. ensures-if (lacks 0 p) (λ j. ensures-deep s (lowered p) (given (fits-lowered xs vs y pure_terms p j x.0, ap lowered x.1 ∙ i))) (λ _. refused))
+  lowered-part : {a : Tree} {q : Questions Tree} (vs : List Sort) (y : Sort) (s : Span) → Ensures e (λ p. Fits (within (y ∷ vs) xs) pure_terms p × (p ≡ a)) q
+      → Ensures e (λ p. Fits (within vs xs) pure_terms p × (p ≡ lowered a)) (then q (λ p. unless_used (letter s) p (limited s (lowered p))))
+  lowered-part vs y s h =
+      ensures-then h (λ p x. ensures-if (lacks 0 p) (λ j. ensures-deep s (lowered p) (given (fits-lowered xs vs y pure_terms p j x.0, ap lowered x.1))) (λ _. refused))
 
   -- where nothing is written, it is `λx.x`
   pub erase-none : (vs : List Sort) (t : Scoped) → IsLeftOut t → Ensures e (ErasureOf vs terms t) (erase e f t)
@@ -62,11 +61,11 @@ module _ (e : Env) (f : Encodings) (xs : List Sort) (w : EncodingsFit xs f) wher
   pub erase-is : (vs : List Sort) (c : TreeClass) (t : Scoped) → SourceFits vs xs c t → Ensures e (ErasureOf vs c t) (erase e f t)
   erase-is vs terms (s_name s n) h = ensures-deep s (name_erased f n) (given (term-name-erased vs n h, refl))
   erase-is vs types (s_name s n) h = ensures-deep s (name_erased f n) (given (type-name-erased vs n h, refl))
-  erase-is vs terms (s_lam s x a t) h = one-part vs (OfTerm ∷ vs) terms terms s t (s_lam s x a t) (fun of_pure) (λ p k. k) refl (erase-is (OfTerm ∷ vs) terms t h.1)
-  erase-is vs terms (s_elam s x a t) h = lowered-part vs OfTerm s t (s_elam s x a t) refl (erase-is (OfTerm ∷ vs) terms t h.1)
-  erase-is vs terms (s_xlam s x a t) h = lowered-part vs OfType s t (s_xlam s x a t) refl (erase-is (OfType ∷ vs) terms t h.1)
-  erase-is vs terms (s_unclassed s x a t) h = lowered-part vs OfTerm s t (s_unclassed s x a t) refl (erase-is (OfTerm ∷ vs) terms t h.0)
-  erase-is vs terms (s_app s t u) h = two-parts vs vs terms terms terms s t u (s_app s t u) (apply of_pure) (λ p q k l. (k, l)) refl (erase-is vs terms t h.0) (erase-is vs terms u h.1)
+  erase-is vs terms (s_lam s x a t) h = one-part s (fun of_pure) (λ p k. k) (erase-is (OfTerm ∷ vs) terms t h.1)
+  erase-is vs terms (s_elam s x a t) h = lowered-part vs OfTerm s (erase-is (OfTerm ∷ vs) terms t h.1)
+  erase-is vs terms (s_xlam s x a t) h = lowered-part vs OfType s (erase-is (OfType ∷ vs) terms t h.1)
+  erase-is vs terms (s_unclassed s x a t) h = lowered-part vs OfTerm s (erase-is (OfTerm ∷ vs) terms t h.0)
+  erase-is vs terms (s_app s t u) h = two-parts s (apply of_pure) (λ p q k l. (k, l)) (erase-is vs terms t h.0) (erase-is vs terms u h.1)
   erase-is vs terms (s_eapp s t u) h = erase-is vs terms t h.0
   erase-is vs terms (s_tapp s t u) h = erase-is vs terms t h.0
   erase-is vs terms (s_pair s t u) h = erase-is vs terms t h.0
@@ -79,18 +78,18 @@ module _ (e : Env) (f : Encodings) (xs : List Sort) (w : EncodingsFit xs f) wher
   erase-is vs terms (s_delta s a q) h = given (refl, refl)
   erase-is vs terms (s_chi s a t) h = erase-is vs terms t h.1
   erase-is vs terms (s_flip s q) h = erase-is vs terms q h
-  erase-is vs types (s_pi s x a b) h = two-parts vs (OfTerm ∷ vs) types types types s a b (s_pi s x a b) (bind pi_of) (λ p q k l. (k, l)) refl (erase-is vs types a h.0) (erase-is (OfTerm ∷ vs) types b h.1)
-  erase-is vs types (s_all s x a b) h = two-parts vs (OfTerm ∷ vs) types types types s a b (s_all s x a b) (bind all_of) (λ p q k l. (k, l)) refl (erase-is vs types a h.0) (erase-is (OfTerm ∷ vs) types b h.1)
-  erase-is vs types (s_iota s x a b) h = two-parts vs (OfTerm ∷ vs) types types types s a b (s_iota s x a b) (bind iota_of) (λ p q k l. (k, l)) refl (erase-is vs types a h.0) (erase-is (OfTerm ∷ vs) types b h.1)
-  erase-is vs types (s_allt s x a b) h = two-parts vs (OfType ∷ vs) kinds types types s a b (s_allt s x a b) (bind allt_of) (λ p q k l. (k, l)) refl (erase-is vs kinds a h.0) (erase-is (OfType ∷ vs) types b h.1)
-  erase-is vs types (s_tlam s x a b) h = one-part vs (OfTerm ∷ vs) types types s b (s_tlam s x a b) (fun of_term) (λ p k. k) refl (erase-is (OfTerm ∷ vs) types b h.1)
-  erase-is vs types (s_xtlam s x a b) h = one-part vs (OfType ∷ vs) types types s b (s_xtlam s x a b) (fun of_type) (λ p k. k) refl (erase-is (OfType ∷ vs) types b h.1)
-  erase-is vs types (s_at s a t) h = two-parts vs vs types terms types s a t (s_at s a t) (apply of_term) (λ p q k l. (k, l)) refl (erase-is vs types a h.0) (erase-is vs terms t h.1)
-  erase-is vs types (s_on s a b) h = two-parts vs vs types types types s a b (s_on s a b) (apply of_type) (λ p q k l. (k, l)) refl (erase-is vs types a h.0) (erase-is vs types b h.1)
-  erase-is vs types (s_eq s t u) h = two-parts vs vs terms terms types s t u (s_eq s t u) (binary eq_of) (λ p q k l. (k, l)) refl (erase-is vs terms t h.0) (erase-is vs terms u h.1)
+  erase-is vs types (s_pi s x a b) h = two-parts s (bind pi_of) (λ p q k l. (k, l)) (erase-is vs types a h.0) (erase-is (OfTerm ∷ vs) types b h.1)
+  erase-is vs types (s_all s x a b) h = two-parts s (bind all_of) (λ p q k l. (k, l)) (erase-is vs types a h.0) (erase-is (OfTerm ∷ vs) types b h.1)
+  erase-is vs types (s_iota s x a b) h = two-parts s (bind iota_of) (λ p q k l. (k, l)) (erase-is vs types a h.0) (erase-is (OfTerm ∷ vs) types b h.1)
+  erase-is vs types (s_allt s x a b) h = two-parts s (bind allt_of) (λ p q k l. (k, l)) (erase-is vs kinds a h.0) (erase-is (OfType ∷ vs) types b h.1)
+  erase-is vs types (s_tlam s x a b) h = one-part s (fun of_term) (λ p k. k) (erase-is (OfTerm ∷ vs) types b h.1)
+  erase-is vs types (s_xtlam s x a b) h = one-part s (fun of_type) (λ p k. k) (erase-is (OfType ∷ vs) types b h.1)
+  erase-is vs types (s_at s a t) h = two-parts s (apply of_term) (λ p q k l. (k, l)) (erase-is vs types a h.0) (erase-is vs terms t h.1)
+  erase-is vs types (s_on s a b) h = two-parts s (apply of_type) (λ p q k l. (k, l)) (erase-is vs types a h.0) (erase-is vs types b h.1)
+  erase-is vs types (s_eq s t u) h = two-parts s (binary eq_of) (λ p q k l. (k, l)) (erase-is vs terms t h.0) (erase-is vs terms u h.1)
   erase-is vs kinds (s_star s) h = given (tt, refl)
-  erase-is vs kinds (s_kpi s x a k) h = two-parts vs (OfTerm ∷ vs) types kinds kinds s a k (s_kpi s x a k) (bind kpi_of) (λ p q k l. (k, l)) refl (erase-is vs types a h.0) (erase-is (OfTerm ∷ vs) kinds k h.1)
-  erase-is vs kinds (s_kpit s x a k) h = two-parts vs (OfType ∷ vs) kinds kinds kinds s a k (s_kpit s x a k) (bind kpit_of) (λ p q k l. (k, l)) refl (erase-is vs kinds a h.0) (erase-is (OfType ∷ vs) kinds k h.1)
+  erase-is vs kinds (s_kpi s x a k) h = two-parts s (bind kpi_of) (λ p q k l. (k, l)) (erase-is vs types a h.0) (erase-is (OfTerm ∷ vs) kinds k h.1)
+  erase-is vs kinds (s_kpit s x a k) h = two-parts s (bind kpit_of) (λ p q k l. (k, l)) (erase-is vs kinds a h.0) (erase-is (OfType ∷ vs) kinds k h.1)
   erase-is vs c t h = absurd h
 
   pub erase-optional : (vs : List Sort) (t : Scoped) → IsLeftOut t ⊎ SourceFits vs xs terms t → Ensures e (ErasureOf vs terms t) (erase e f t)
