@@ -1,4 +1,4 @@
--- Derivations of what the surface rules read off: entries of contexts and items, parts of types, kinds of annotated types.
+-- Derivations of what the surface rules read off: entries of contexts and items, parts of types.
 use Rattle.std.proofs.Common.{◌≡◌, ℕ, zero, suc, Bool, true, false, cond, List, [], ◌∷◌, ◌++◌, length, Option, Some, None, slice_get, option_map, refl, sym, ap, ◌∙◌, subst, arith}
 use Rattle.cdle_model.specs.Trees.{of_term, of_type, pi_of, all_of, allt_of, iota_of, kpi_of, kpit_of, tlam_of, xtlam_of, Tree, leaf, apply, bind, lacks, IsBelow}
 use Rattle.cdle_model.specs.Forms.{star, kpi, kpit, Written, def_item, type_item}

@@ -134,7 +134,7 @@ abbrev FoundHolds : {A : Type 0} → (A → Type 0) → Finding A → Type 0
 FoundHolds P (found x) = P x
 FoundHolds P r = Unit {0}
 
-pub halt-holds : {A : Type 0} (P : A → Type 0) (f : Span) (h : Halt) → FoundHolds P (by_halt f h)
+halt-holds : {A : Type 0} (P : A → Type 0) (f : Span) (h : Halt) → FoundHolds P (by_halt f h)
 halt-holds P f deep = tt
 halt-holds P f ill_classed = tt
 

@@ -57,6 +57,10 @@ put-raised x y = put-shift 0 0 0 x (omega arith) (omega arith) y ∙ shift_zero 
 two_lacking : {A B C D E : Type 0} → A × B → C × D → E → (A × C) × (B × D × E)
 two_lacking h k i = ((h.0, k.0), (h.1, k.1, i))
 
+-- what is known under one more entry
+under : {A B C : Type 0} → A × B → C → A × (C × B)
+under h k = (h.0, (k, h.1))
+
 module _ (e : Env) (g : EnvSound e) (f : Encodings) (w : EncodingsFit (item_sorts e.items) f) (R : Tree → Tree → Type 0) (like : IsLike f R) where
   abbrev Xs : List Sort
   Xs = item_sorts e.items
@@ -82,20 +86,20 @@ module _ (e : Env) (g : EnvSound e) (f : Encodings) (w : EncodingsFit (item_sort
   closed = items-closed e.items g.items
 
   -- the items and the context are derived
-  abbrev pub H : List Entry → Type 0
+  abbrev H : List Entry → Type 0
   H c = AreDerived e.items × ContextDerived (signature e.items) c
 
   -- what is given of a source
-  abbrev pub T : List Entry → Scoped → Typed → Type 0
+  abbrev T : List Entry → Scoped → Typed → Type 0
   T c t = TypedGiven e R c (H c) (E t)
 
-  abbrev pub U : List Entry → Scoped → Tree → Tree → Type 0
+  abbrev U : List Entry → Scoped → Tree → Tree → Type 0
   U c t = TermGiven e R c (H c) (E t)
 
-  abbrev pub K : List Entry → Scoped → Typed → Type 0
+  abbrev K : List Entry → Scoped → Typed → Type 0
   K c t = KindedGiven e R c (H c) (E t)
 
-  abbrev pub N : List Entry → Scoped → Tree → Type 0
+  abbrev N : List Entry → Scoped → Tree → Type 0
   N c t = KindGiven e R c (H c) (E t)
 
   abbrev M : List Entry → Tree → Option Tree → Made → Type 0
@@ -283,7 +287,7 @@ module _ (e : Env) (g : EnvSound e) (f : Encodings) (w : EncodingsFit (item_sort
       ensures-then (checks (term_of d ∷ c) t b l (hd, hc) h (second hb.sound)) (λ r hr. unused (letter s) (erased r) (λ i. gives-one s (elam d r) _ (
         two_lacking hd hr.0 i,
         like.lowers _ _ hr.1,
-        from-head c a (all d b) (elam d r) hb (λ o k. let (kd, kb) = in_all k in by_rule (elam_rule kd (hr.2 (o.0, (kd, o.1)) kb) i)),
+        from-head c a (all d b) (elam d r) hb (λ o k. let (kd, kb) = in_all k in by_rule (elam_rule kd (hr.2 (under o kd) kb) i)),
       )))
 
   xlam-checked : (s : Span) (c : List Entry) (t : Scoped) (a d b : Tree) → Headed c a (allt d b) → TermLaw (type_of d ∷ c) t → ContextSound Xs c → SourceFits (OfType ∷ V c) Xs terms t
@@ -292,7 +296,7 @@ module _ (e : Env) (g : EnvSound e) (f : Encodings) (w : EncodingsFit (item_sort
       ensures-then (checks (type_of d ∷ c) t b l (hd, hc) h (second hb.sound)) (λ r hr. unused (letter s) (erased r) (λ i. gives-one s (xlam d r) _ (
         two_lacking hd hr.0 i,
         like.lowers _ _ hr.1,
-        from-head c a (allt d b) (xlam d r) hb (λ o k. let (kd, kb) = in_allt k in by_rule (xlam_rule kd (hr.2 (o.0, (kd, o.1)) kb))),
+        from-head c a (allt d b) (xlam d r) hb (λ o k. let (kd, kb) = in_allt k in by_rule (xlam_rule kd (hr.2 (under o kd) kb))),
       )))
 
   -- a guide at the sides of an equation
@@ -348,7 +352,8 @@ module _ (e : Env) (g : EnvSound e) (f : Encodings) (w : EncodingsFit (item_sort
       m q' hq.0 (λ a o k. by_rule (delta_rule k (hq.3 o).0 i j)))))
 
   -- the parts of an intersection
-  projected : {A : Type 0} {P : A → Type 0} {k : Tree → Tree → Tree → Questions A} (s : Span) (o : Code) (c : List Entry) (t : Scoped) → TermLaw c t → ContextSound Xs c → SourceFits (V c) Xs terms t
+  projected : {A : Type 0} {P : A → Type 0} {k : Tree → Tree → Tree → Questions A} (s : Span) (o : Code) (c : List Entry) (t : Scoped)
+      → TermLaw c t → ContextSound Xs c → SourceFits (V c) Xs terms t
       → ((x a b : Tree) → T c t (x, iota a b) → Ensures e P (k x a b)) → Ensures e P (then (infer e f c t (term e f c t)) (λ x. binder_then s (span_of t) o iota_of x.1 (k x.0)))
   projected s o c t l hc h u = ensures-then (infers c t l hc h) (λ x hx. binders s (span_of t) o iota_of c x.1 hx.2 (λ a b i. u x.0 a b (at-head c t x (iota a b) hx i)))
 
@@ -375,54 +380,61 @@ module _ (e : Env) (g : EnvSound e) (f : Encodings) (w : EncodingsFit (item_sort
       → Ensures e (K c a) (type e f c a) → ((x : Tree) → S c types x → Ensures e (K (term_of x ∷ c) b) (type e f (term_of x ∷ c) b))
       → Ensures e (KindedGiven e R c (H c) (bind m (E a) (E b))) (star_then s a (type e f c a) (λ x. star_then s b (type e f (term_of x ∷ c) b) (λ y. gives_type s (bind m x y) star)))
   products s c a b m j i r h u = stars s c a h (λ x hx. stars s (term_of x ∷ c) b (u x hx.0) (λ y hy.
-      gives-two s (bind m x y) star _ (i x y hx.0 hy.0, rw (j x y) (like.binders m _ _ _ _ hx.1 hy.1), (tt, tt), λ o. (r x y (hx.2 o) (hy.2 (o.0, (hx.2 o, o.1))), by_rule star_rule))))
+      gives-two s (bind m x y) star _ (i x y hx.0 hy.0, rw (j x y) (like.binders m _ _ _ _ hx.1 hy.1), (tt, tt), λ o. (r x y (hx.2 o) (hy.2 (under o (hx.2 o))), by_rule star_rule))))
 
   -- ---- the rules
 
   mutual
     term-given : (c : List Entry) (t : Scoped) → TermLaw c t
+    -- a variable, a name
     term-given c (s_name s n) hc h a z ha = term-named s c n hc h a
+    -- `λ x : A . t`
     term-given c (s_lam s x a t) hc h None z ha = ensures-written a h.0 (λ fa. stars s c a (kinded-given c a hc fa) (λ d hd.
         ensures-then (infers (term_of d ∷ c) t (term-given (term_of d ∷ c) t) (hd.0, hc) h.1) (λ r hr. gives-two s (lam d r.0) (pi d r.1) _ (
           two hd.0 hr.0,
           like.functions of_pure _ _ hr.1,
           two hd.0 hr.2,
-          λ o. let (k, l) = hr.3 (o.0, (hd.2 o, o.1)) in (by_rule (lam_rule (hd.2 o) k), by_rule (pi_rule (hd.2 o) l)),
+          λ o. let (k, l) = hr.3 (under o (hd.2 o)) in (by_rule (lam_rule (hd.2 o) k), by_rule (pi_rule (hd.2 o) l)),
         )))) refused
     term-given c (s_lam s x a t) hc h (Some y) z ha = binders s (letter s) _ pi_of c y ha (λ d b hb. let hd : S c types d = first hb.sound in
         annotated s c a d h.0 (kinded-given c a hc) hd (ensures-then (checks (term_of d ∷ c) t b (term-given (term_of d ∷ c) t) (hd, hc) h.1 (second hb.sound)) (λ r hr. gives-one s (lam d r) _ (
           two hd hr.0,
           like.functions of_pure _ _ hr.1,
-          from-head c y (pi d b) (lam d r) hb (λ o k. let (kd, kb) = in_pi k in by_rule (lam_rule kd (hr.2 (o.0, (kd, o.1)) kb))),
+          from-head c y (pi d b) (lam d r) hb (λ o k. let (kd, kb) = in_pi k in by_rule (lam_rule kd (hr.2 (under o kd) kb))),
         ))))
+    -- `Λ x : A . t`
     term-given c (s_elam s x a t) hc h None z ha = ensures-written a h.0 (λ fa. stars s c a (kinded-given c a hc fa) (λ d hd.
         ensures-then (infers (term_of d ∷ c) t (term-given (term_of d ∷ c) t) (hd.0, hc) h.1) (λ r hr. unused (letter s) (erased r.0) (λ i. gives-two s (elam d r.0) (all d r.1) _ (
           two_lacking hd.0 hr.0 i,
           like.lowers _ _ hr.1,
           two hd.0 hr.2,
-          λ o. let (k, l) = hr.3 (o.0, (hd.2 o, o.1)) in (by_rule (elam_rule (hd.2 o) k i), by_rule (all_rule (hd.2 o) l)),
+          λ o. let (k, l) = hr.3 (under o (hd.2 o)) in (by_rule (elam_rule (hd.2 o) k i), by_rule (all_rule (hd.2 o) l)),
         ))))) refused
     term-given c (s_elam s x a t) hc h (Some y) z ha = binders s (letter s) _ all_of c y ha (λ d b hb.
         annotated s c a d h.0 (kinded-given c a hc) (first hb.sound) (elam-checked s c t y d b hb (term-given (term_of d ∷ c) t) hc h.1))
+    -- `Λ X : κ . t`
     term-given c (s_xlam s x a t) hc h None z ha = ensures-written a h.0 (λ fa. ensures-then (kind-given c a hc fa) (λ d hd.
         ensures-then (infers (type_of d ∷ c) t (term-given (type_of d ∷ c) t) (hd.0, hc) h.1) (λ r hr. unused (letter s) (erased r.0) (λ i. gives-two s (xlam d r.0) (allt d r.1) _ (
           two_lacking hd.0 hr.0 i,
           like.lowers _ _ hr.1,
           two hd.0 hr.2,
-          λ o. let (k, l) = hr.3 (o.0, (hd.2 o, o.1)) in (by_rule (xlam_rule (hd.2 o) k), by_rule (allt_rule (hd.2 o) l)),
+          λ o. let (k, l) = hr.3 (under o (hd.2 o)) in (by_rule (xlam_rule (hd.2 o) k), by_rule (allt_rule (hd.2 o) l)),
         ))))) refused
     term-given c (s_xlam s x a t) hc h (Some y) z ha = binders s (letter s) _ allt_of c y ha (λ d b hb.
         annotated-kind s c a d h.0 (kind-given c a hc) (first hb.sound) (xlam-checked s c t y d b hb (term-given (type_of d ∷ c) t) hc h.1))
+    -- `Λ x . t` whose variable is not used
     term-given c (s_unclassed s x a t) hc h None z ha = refused
     term-given c (s_unclassed s x a t) hc h (Some y) z ha = headed (λ y' i. let hy : Headed c y y' = heads-of c y y' ha i in
         ensures-binder all_of y' (λ d b j. elam-checked s c t y d b (subst (Headed c y) j hy) (term-given (term_of d ∷ c) t) hc h.0)
         (ensures-binder allt_of y' (λ d b j. xlam-checked s c t y d b (subst (Headed c y) j hy) (term-given (type_of d ∷ c) t) hc h.1) refused))
+    -- spines
     term-given c (s_app s t u) hc h a z ha = heads c t a z (term-given c t) hc h.0 (λ x hx. kept-given e g f R like c hc (H c) (λ o. o.0) z (span_of u) x hx
         (infers c u (term-given c u) hc h.1) (λ b hb. checks c u b (term-given c u) hc h.1 hb))
     term-given c (s_eapp s t u) hc h a z ha = heads c t a z (term-given c t) hc h.0 (λ x hx. erased-given e g f R like c hc (H c) (λ o. o.0) z (span_of u) x hx
         (infers c u (term-given c u) hc h.1) (λ b hb. checks c u b (term-given c u) hc h.1 hb))
     term-given c (s_tapp s t u) hc h a z ha = heads c t a z (term-given c t) hc h.0 (λ x hx.
         type-given e g f R like c hc (H c) (λ o. o.0) z (span_of u) x hx (kinded-given c u hc h.1))
+    -- `[t, u]`, `t.1`, `t.2`
     term-given c (s_pair s t u) hc h None z ha = refused
     term-given c (s_pair s t u) hc h (Some y) z ha = binders s _ _ iota_of c y ha (λ a b hb.
         ensures-then (checks c t a (term-given c t) hc h.0 (first hb.sound)) (λ p hp. ensures-deep s (put_written 0 p b)
@@ -441,6 +453,7 @@ module _ (e : Env) (g : EnvSound e) (f : Encodings) (w : EncodingsFit (item_sort
       sound-put Xs (V c) OfTerm (fst x) b types tt hx.0 (second hx.2),
       λ o. let (k, l) = hx.3 o in (subst (Derives c a_term (snd x)) (sym (erased-put 0 (fst x) b)) (by_rule (snd_rule k)), put-star c a (fst x) b (by_rule (fst_rule k)) (in_iota l).1),
     )))
+    -- `β<x>{p}`
     term-given c (s_beta s x p) hc h a z ha = ensures-written x h.0
         (λ fx. ensures-then (erases (V c) terms x fx) (λ x' hx. ensures-then (erases-kept c p h.1) (λ k hk. gives-two s (beta x' k) (eq x' x') _
         (beta-sound c x' k hx.0 hk.0, rw (← hk.1) (like.itself k), eq-sound c x' x' hx.0 hx.0, λ o. (by_rule beta_rule, by_rule eq_rule)))))
@@ -450,6 +463,7 @@ module _ (e : Env) (g : EnvSound e) (f : Encodings) (w : EncodingsFit (item_sort
           rw (← hk.1) (like.itself k),
           λ o l. converted (by_rule beta_rule) (linked-join (joined_binary end j) (linked-turn i.same)),
         ))))))
+    -- `ρ q @ x . d - t`
     term-given c (s_rho s r x q d t) hc h a z ha = proofs s c q (term-given c q) hc h.0 (λ q' x' y' hq. ensures-if (is_equation d)
         (λ i. ensures-then (erases (OfTerm ∷ V c) types d h.1) (λ d' hd. let (m, n, j) = equation-erased f d i in
         rw (hd.1 ∙ j) (rho-written s c q t q' x' y' m n a hq (term-given c t) hc h.2 ha (rw (hd.1 ∙ j) at hd.0))))
@@ -458,16 +472,20 @@ module _ (e : Env) (g : EnvSound e) (f : Encodings) (w : EncodingsFit (item_sort
         ensures-then (infers c t (term-given c t) hc h.2) (λ v hv. ensures-deep s (put 0 y' d')
         (compared (two-guides c (erased v.1) (put 0 y' d') (of-type c v.1 hv.2) (put-guide c y' d' hq.2.0.1 hd.0)) (λ j. gives-one s (rho q' d' b v.0) _
         (rho-sound c q' d' b v.0 hq.0 hd.0 hb hv.0, hv.1, λ o k. by_rule (rho_rule (hq.3 o).0 k i (converted (hv.3 o).0 j))))))))))))
+    -- `φ q - t { p }`
     term-given c (s_phi s r q t p) hc h None z ha = proofs s c q (term-given c q) hc h.0 (λ q' x y hq. ensures-then (infers c t (term-given c t) hc h.1) (λ v hv.
         phis s c q p q' x y v.0 hq hv.0 h.2 (λ k hk. gives-two s (phi q' v.0 k) v.1 _ (hk.0, hk.1, hv.2, λ o. (hk.2 (erased v.1) o (hv.3 o).0, (hv.3 o).1)))))
     term-given c (s_phi s r q t p) hc h (Some a) z ha = proofs s c q (term-given c q) hc h.0 (λ q' x y hq. ensures-then (checks c t a (term-given c t) hc h.1 ha) (λ v hv.
         phis s c q p q' x y v hq hv.0 h.2 (λ k hk. gives-one s (phi q' v k) _ (hk.0, hk.1, λ o l. hk.2 (erased a) o (hv.2 o l)))))
+    -- `δ A - q`
     term-given c (s_delta s a q) hc h o' z ho = ensures-written a h.0
         (λ fa. stars s c a (kinded-given c a hc fa) (λ a' ha. deltas s c q (term-given c q) hc h.1 (λ q' hq k.
         gives-two s (delta a' q') a' _ (two ha.0 hq, like.itself identity, ha.0, λ o. (k a' o (ha.2 o), ha.2 o)))))
         (asked c identity o' ho refused (λ b hb. deltas s c q (term-given c q) hc h.1 (λ q' hq k. gives-one s (delta b q') _ (two hb hq, like.itself identity, k b))))
+    -- `χ A - t`
     term-given c (s_chi s a t) hc h b z hb = stars s c a (kinded-given c a hc h.0) (λ a' ha. ensures-then (checks c t a' (term-given c t) hc h.1 ha.0) (λ x hx.
         gives-two s x a' _ (hx.0, hx.1, ha.0, λ o. (hx.2 o (ha.2 o), ha.2 o))))
+    -- `ς q`
     term-given c (s_flip s q) hc h b z hb = proofs s c q (term-given c q) hc h (λ q' x y hq.
         gives-two s (rho q' (eq (shift 0 1 y) (var 0)) (eq y x) (beta y (erased q'))) (eq y x) _ (flip-given c q q' x y hq))
     term-given c t hc h a z ha = absurd h
@@ -481,21 +499,23 @@ module _ (e : Env) (g : EnvSound e) (f : Encodings) (w : EncodingsFit (item_sort
     kinded-given c (s_iota s x a b) hc h = products s c a b iota_of (λ x y. refl) (λ x y. two) (λ x y k l. by_rule (iota_rule k l))
         (kinded-given c a hc h.0) (λ x hx. kinded-given (term_of x ∷ c) b (hx, hc) h.1)
     kinded-given c (s_allt s x a b) hc h = ensures-then (kind-given c a hc h.0) (λ a' ha. stars s (type_of a' ∷ c) b (kinded-given (type_of a' ∷ c) b (ha.0, hc) h.1) (λ b' hb.
-        gives-two s (allt a' b') star _ (two ha.0 hb.0, like.binders allt_of _ _ _ _ ha.1 hb.1, (tt, tt), λ o. (by_rule (allt_rule (ha.2 o) (hb.2 (o.0, (ha.2 o, o.1)))), by_rule star_rule))))
+        gives-two s (allt a' b') star _ (two ha.0 hb.0, like.binders allt_of _ _ _ _ ha.1 hb.1, (tt, tt), λ o. (by_rule (allt_rule (ha.2 o) (hb.2 (under o (ha.2 o)))), by_rule star_rule))))
+    -- `λ x : A . B`, `λ X : κ . B`
     kinded-given c (s_tlam s x a b) hc h = stars s c a (kinded-given c a hc h.0) (λ a' ha. ensures-then (kinded-given (term_of a' ∷ c) b (ha.0, hc) h.1) (λ y hy.
         gives-two s (tlam a' y.0) (kpi a' y.1) _ (
           two ha.0 hy.0,
           like.functions of_term _ _ hy.1,
           two ha.0 hy.2,
-          λ o. let (k, l) = hy.3 (o.0, (ha.2 o, o.1)) in (by_rule (tlam_rule (ha.2 o) k), by_rule (kpi_rule (ha.2 o) l)),
+          λ o. let (k, l) = hy.3 (under o (ha.2 o)) in (by_rule (tlam_rule (ha.2 o) k), by_rule (kpi_rule (ha.2 o) l)),
         )))
     kinded-given c (s_xtlam s x a b) hc h = ensures-then (kind-given c a hc h.0) (λ a' ha. ensures-then (kinded-given (type_of a' ∷ c) b (ha.0, hc) h.1) (λ y hy.
         gives-two s (xtlam a' y.0) (kpit a' y.1) _ (
           two ha.0 hy.0,
           like.functions of_type _ _ hy.1,
           two ha.0 hy.2,
-          λ o. let (k, l) = hy.3 (o.0, (ha.2 o, o.1)) in (by_rule (xtlam_rule (ha.2 o) k), by_rule (kpit_rule (ha.2 o) l)),
+          λ o. let (k, l) = hy.3 (under o (ha.2 o)) in (by_rule (xtlam_rule (ha.2 o) k), by_rule (kpit_rule (ha.2 o) l)),
         )))
+    -- `A t`, `A ·B`
     kinded-given c (s_at s a t) hc h = ensures-then (kinded-given c a hc h.0) (λ y hy. ensures-binder kpi_of y.1 (λ b k i. let hk : S c kinds (kpi b k) = subst (S c kinds) i hy.2 in
         ensures-then (checks c t b (term-given c t) hc h.1 (first hk)) (λ t' ht. gives-two s (at_ y.0 t') (put_written 0 t' k) _ (
           two hy.0 ht.0,
@@ -512,6 +532,7 @@ module _ (e : Env) (g : EnvSound e) (f : Encodings) (w : EncodingsFit (item_sort
           λ o. let (l, m) = subst (λ z. Derives c a_type y.0 (erased z) × Derives c a_kind z star) i (hy.3 o) in let (m0, m1) = in_kpit m in let n = converted (ht.3 o).0 j in
               (subst (Derives c a_type (on y.0 t'.0)) (sym (erased-put 0 t'.0 p)) (by_rule (on_rule l n)), has-put (signature e.items) closed (type_of (erased k)) t'.0 p star n m1),
         )))) refused)
+    -- `{ t ≃ u }`
     kinded-given c (s_eq s t u) hc h = ensures-then (erases (V c) terms t h.0) (λ p hp. ensures-then (erases (V c) terms u h.1) (λ q hq.
         gives-two s (eq p q) star _ (eq-sound c p q hp.0 hq.0, rw (← hp.1, ← hq.1) (like.itself (eq p q)), (tt, tt), λ o. (by_rule eq_rule, by_rule star_rule))))
     kinded-given c t hc h = absurd h
@@ -519,9 +540,9 @@ module _ (e : Env) (g : EnvSound e) (f : Encodings) (w : EncodingsFit (item_sort
     pub kind-given : (c : List Entry) (t : Scoped) → ContextSound Xs c → SourceFits (V c) Xs kinds t → Ensures e (N c t) (kind e f c t)
     kind-given c (s_star s) hc h = given ((tt, tt), like.itself star, λ o. by_rule star_rule)
     kind-given c (s_kpi s x a k) hc h = stars s c a (kinded-given c a hc h.0) (λ a' ha. ensures-then (kind-given (term_of a' ∷ c) k (ha.0, hc) h.1) (λ l hl.
-        gives-one s (kpi a' l) _ (two ha.0 hl.0, like.binders kpi_of _ _ _ _ ha.1 hl.1, λ o. by_rule (kpi_rule (ha.2 o) (hl.2 (o.0, (ha.2 o, o.1)))))))
+        gives-one s (kpi a' l) _ (two ha.0 hl.0, like.binders kpi_of _ _ _ _ ha.1 hl.1, λ o. by_rule (kpi_rule (ha.2 o) (hl.2 (under o (ha.2 o)))))))
     kind-given c (s_kpit s x a k) hc h = ensures-then (kind-given c a hc h.0) (λ a' ha. ensures-then (kind-given (type_of a' ∷ c) k (ha.0, hc) h.1) (λ l hl.
-        gives-one s (kpit a' l) _ (two ha.0 hl.0, like.binders kpit_of _ _ _ _ ha.1 hl.1, λ o. by_rule (kpit_rule (ha.2 o) (hl.2 (o.0, (ha.2 o, o.1)))))))
+        gives-one s (kpit a' l) _ (two ha.0 hl.0, like.binders kpit_of _ _ _ _ ha.1 hl.1, λ o. by_rule (kpit_rule (ha.2 o) (hl.2 (under o (ha.2 o)))))))
     kind-given c t hc h = absurd h
 
   pub inferred-given : (c : List Entry) (t : Scoped) → ContextSound Xs c → SourceFits (V c) Xs terms t → Ensures e (T c t) (infer e f c t (term e f c t))

@@ -130,7 +130,7 @@ pub record IsLike (f : Encodings) (R : Tree → Tree → Type 0) : Type 0 where
   pub encodings : (n : ℕ) (p : Tree) → f n ≡ Some p → R (name n) p
 
 -- a judgement of Core over the erased context
-abbrev pub Derives : Env → List Entry → Judgement → Tree → Tree → Type 0
+abbrev Derives : Env → List Entry → Judgement → Tree → Tree → Type 0
 Derives e c j t a = Has (signature e.items) j (erased_context c) t a
 
 -- ---- what is known of what is given, over a context; its erasure is like p

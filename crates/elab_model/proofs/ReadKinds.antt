@@ -60,7 +60,7 @@ module _ (e : Env) (g : EnvSound e) where
   abbrev OfKind : List Entry → Tree → Tree → Type 0
   OfKind c a k = Has Is a_type (erased_context c) a k
 
-  abbrev pub KindRead : List Entry → Tree → Tree → Type 0
+  abbrev KindRead : List Entry → Tree → Tree → Type 0
   KindRead c a k = S c kinds k × (AreDerived e.items → (l : Tree) → OfKind c a l → OfKind c a (erased k))
 
   -- a kind and the one that is read off are one
