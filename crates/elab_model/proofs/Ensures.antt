@@ -6,18 +6,16 @@ use Rattle.cdle_model.specs.Forms.{eq}
 use Rattle.cdle_model.specs.Classes.{item_sorts}
 use Rattle.cdle_model.specs.Depth.{depth}
 use Rattle.cdle_model.specs.Steps.{Joined}
-use Rattle.cdle_model.specs.Machine.{Budgeted, answered, spent}
-use Rattle.cdle_model.specs.HeadForms.{Halt, deep, ill_classed, deepest, HeadAnswer, value, no_value}
-use Rattle.cdle_model.specs.Comparison.{Answer, same, apart, halted, compare}
+use Rattle.cdle_model.specs.Machine.{answered}
+use Rattle.cdle_model.specs.HeadForms.{deepest, value}
 use Rattle.cdle_model.specs.Derivation.{bodies, signature}
-use Rattle.cdle_model.proofs.SameJoined.{compare-joined}
 use Rattle.cdle_model.proofs.ClassChecked.{SameClass}
 use Rattle.elab_model.specs.declared.codes.Code.{Code}
 use Rattle.source_model.specs.Source.{Span}
 use Rattle.source_model.specs.Heights.{is_none}
 use Rattle.scope_model.specs.Scoped.{Scoped}
 use Rattle.elab_model.specs.SourceClasses.{IsLeftOut}
-use Rattle.elab_model.specs.Questions.{Questions, gives, rejects, deep_at, astray, ask_same, ask_head, then, unless_deep, Env, Finding, found, by_halt, by_answer, by_head, head_in, answer}
+use Rattle.elab_model.specs.Questions.{Questions, gives, rejects, deep_at, astray, ask_same, ask_head, then, unless_deep, Env, head_in}
 use Rattle.elab_model.specs.Spines.{binder_parts, equation_parts}
 use Rattle.elab_model.specs.Rules.{if_written}
 
@@ -127,35 +125,3 @@ ensures-equation (unary j p) u v = v
 ensures-equation (fun c p) u v = v
 ensures-equation (apply c p q) u v = v
 ensures-equation (bind f p q) u v = v
-
--- ---- what is found at some budget
-
-abbrev FoundHolds : {A : Type 0} → (A → Type 0) → Finding A → Type 0
-FoundHolds P (found x) = P x
-FoundHolds P r = Unit {0}
-
-halt-holds : {A : Type 0} (P : A → Type 0) (f : Span) (h : Halt) → FoundHolds P (by_halt f h)
-halt-holds P f deep = tt
-halt-holds P f ill_classed = tt
-
-answer-holds : {A : Type 0} (e : Env) (n : ℕ) (P : A → Type 0) (q : Questions A) → Each e P q → FoundHolds P (answer e n q)
-answer-holds e n P (gives x) h = h
-answer-holds e n P (rejects p w) h = tt
-answer-holds e n P (deep_at f) h = tt
-answer-holds e n P astray h = tt
-answer-holds e n P (ask_same f p w a b q) h = by_compare (compare (bodies (signature e.items)) n a b) (λ i x. answer-holds e n P q (h.1 (compare-joined (bodies (signature e.items)) n a b i x)))
-  where
-    by_compare : (o : Budgeted Answer) → ((i : ℕ) → o ≡ answered same i → FoundHolds P (answer e n q)) → FoundHolds P (by_answer f p w o (answer e n q))
-    by_compare (answered same i) l = l i refl
-    by_compare (answered (apart x y) i) l = tt
-    by_compare (answered (halted z) i) l = halt-holds P f z
-    by_compare spent l = tt
-answer-holds e n P (ask_head f p d a k) h = by_form (head_in e d n a) (λ b i x. answer-holds e n P (k b) (h b (record { units = n; left = i; is = x })))
-  where
-    by_form : (o : Budgeted HeadAnswer) → ((b : Tree) (i : ℕ) → o ≡ answered (value b) i → FoundHolds P (answer e n (k b))) → FoundHolds P (by_head f p o (λ b. answer e n (k b)))
-    by_form (answered (value b) i) l = l b i refl
-    by_form (answered (no_value z) i) l = halt-holds P f z
-    by_form spent l = tt
-
-pub ensured : {A : Type 0} {e : Env} {P : A → Type 0} {q : Questions A} {x : A} (n : ℕ) → Ensures e P q → answer e n q ≡ found x → P x
-ensured {e = e} {P = P} {q = q} n h i = subst (FoundHolds P) i (answer-holds e n P q h.each)

@@ -15,7 +15,8 @@ use Rattle.elab_model.specs.Questions.{Env, Finding, found, rejected, spent_at, 
 use Rattle.elab_model.specs.Soundness.{EnvSound, EncodingsFit, no_encodings}
 use Rattle.elab_model.specs.ScopedForms.{s_def, s_type}
 use Rattle.elab_model.specs.Items.{EraseTo, SourceItemFits, source_name, item_of_source, IsFresh, names_of, with_items, behind, found_then, items_of_source, IsItemOf, SourceItemsFit, NamesDiffer}
-use Rattle.elab_model.proofs.Ensures.{Ensures, given, compared, ensured, ensures-then}
+use Rattle.elab_model.proofs.Ensures.{Ensures, given, compared, ensures-then}
+use Rattle.elab_model.proofs.Answered.{ensured}
 use Rattle.elab_model.proofs.GivenSpines.{IsLike, same-kinds}
 use Rattle.elab_model.proofs.GivenRules.{stars, kinded-given, kind-given, checked-given}
 use Rattle.elab_model.proofs.Alike.{like-equal, fit-none}
@@ -43,7 +44,7 @@ module _ (e : Env) (f : Encodings) (g : EnvSound e) (v : AreDerived e.items) (w 
   item-ensured (data_item s x ps cs) h = absurd h
 
   pub item-given : (i : ScopedItem) → SourceItemFits (item_sorts e.items) i → (n : ℕ) (x : Written) → answer e n (item_of_source e f i) ≡ found x → IsItemOf R e f i x
-  item-given i h n x j = ensured n (item-ensured i h) j
+  item-given i h n x j = ensured g n (item-ensured i h) j
 
 -- ---- a list of items
 
@@ -57,8 +58,12 @@ erasures-snoc (e ∷ es) w h k = (h.0, erasures-snoc es w h.1 k)
 
 derived-snoc : (bs es : List Written) (w : Written) → DerivedAfter bs es → IsNew (name_of w) (bs ++ es) → HasItem (signature (bs ++ es)) w → DerivedAfter bs (es ++ (w ∷ []))
 derived-snoc bs [] w h k l = (rw (append-nil bs) at k, rw (append-nil bs) at l, tt)
-derived-snoc bs (e ∷ es) w h k l =
-    (h.0, h.1, derived-snoc (bs ++ (e ∷ [])) es w h.2 (subst (λ z. IsNew (name_of w) z) (sym (append_assoc bs (e ∷ []) es)) k) (subst (λ z. HasItem (signature z) w) (sym (append_assoc bs (e ∷ []) es)) l))
+derived-snoc bs (e ∷ es) w h k l = (
+  h.0,
+  h.1,
+  derived-snoc (bs ++ (e ∷ [])) es w h.2 (subst (λ z. IsNew (name_of w) z) (sym (append_assoc bs (e ∷ []) es)) k)
+      (subst (λ z. HasItem (signature z) w) (sym (append_assoc bs (e ∷ []) es)) l),
+)
 
 new-fresh : (x : List ℕ) (es : List Written) → IsFresh x (names_of es) → IsNew x es
 new-fresh x [] h = tt
@@ -89,10 +94,16 @@ behind-is vs (spent_at p) ws h = absurd (grind arith)
 behind-is vs (too_deep p) ws h = absurd (grind arith)
 behind-is vs out_of_scope ws h = absurd (grind arith)
 
-pub items-given : (is : List ScopedItem) (n : ℕ) (e : Env) → EnvSound e → AreDerived e.items → SourceItemsFit (item_sorts e.items) is → NamesDiffer (names_of e.items) is → (ws : List Written) → items_of_source n e no_encodings is ≡ found ws → ItemsGiven e.items is ws
+pub items-given : (is : List ScopedItem) (n : ℕ) (e : Env) → EnvSound e → AreDerived e.items → SourceItemsFit (item_sorts e.items) is → NamesDiffer (names_of e.items) is
+    → (ws : List Written) → items_of_source n e no_encodings is ≡ found ws → ItemsGiven e.items is ws
 items-given [] n e g v h d ws i =
     let j : [] ≡ ws = grind arith in
-    rw (← j) (record { items = subst AreScoped (sym (append-nil e.items)) g.items; erasures = subst HaveErasures (sym (append-nil e.items)) g.erasures; derived = subst AreDerived (sym (append-nil e.items)) v; erase = tt })
+    rw (← j) (record {
+      items = subst AreScoped (sym (append-nil e.items)) g.items;
+      erasures = subst HaveErasures (sym (append-nil e.items)) g.erasures;
+      derived = subst AreDerived (sym (append-nil e.items)) v;
+      erase = tt;
+    })
 items-given (s ∷ is) n e g v h d ws i =
     let (w, x, y) = found_then-is (answer e n (item_of_source e no_encodings s)) _ ws i in
     let (us, z, o) = behind-is (w ∷ []) (items_of_source n (with_items e (w ∷ [])) no_encodings is) ws y in

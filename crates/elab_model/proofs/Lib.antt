@@ -24,7 +24,7 @@ pub mod RulesLargerBudget
 pub mod SoundErasures
 pub mod Strengthened
 pub mod DerivedTrees
-pub mod Safe
+pub mod Answered
 pub mod ReadKinds
 pub mod GivenSpines
 pub mod GivenRules

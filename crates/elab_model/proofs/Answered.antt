@@ -1,5 +1,5 @@
--- What is asked is of one class, and the rules come nowhere without an answer: from a scoped tree of a class the answer is never `out_of_scope`.
-use Rattle.std.proofs.Common.{◌≡◌, ℕ, zero, suc, Bool, true, false, cond, ltb, Option, Some, None, refl, sym, ◌∙◌, subst, arith}
+-- What is found at some budget is what the questions ensure, and there is always an answer: a head form ends early by depth alone, and so does a comparison of two trees of one class.
+use Rattle.std.proofs.Common.{◌≡◌, ℕ, zero, suc, Bool, true, false, cond, ltb, List, Option, Some, None, refl, sym, ◌∙◌, subst}
 use Rattle.cdle_model.specs.Trees.{of_term, of_type, Tree, name}
 use Rattle.cdle_model.specs.Forms.{at_, on, tlam, xtlam}
 use Rattle.cdle_model.specs.Substitution.{put_written}
@@ -15,7 +15,7 @@ use Rattle.cdle_model.proofs.ClassSteps.{compare-halts}
 use Rattle.cdle_model.proofs.ClassItems.{items-fit}
 use Rattle.source_model.specs.Source.{Span}
 use Rattle.elab_model.specs.HeadWritten.{Unfolding, all_but, written_step, limited, written_move, head_written}
-use Rattle.elab_model.specs.Questions.{Questions, gives, rejects, deep_at, astray, ask_same, ask_head, Env, out_of_scope, by_halt, by_answer, by_head, kept_names, head_in, answer}
+use Rattle.elab_model.specs.Questions.{Questions, gives, rejects, deep_at, astray, ask_same, ask_head, Env, Finding, found, out_of_scope, by_halt, by_answer, by_head, kept_names, head_in, answer}
 use Rattle.elab_model.specs.Soundness.{EnvSound}
 use Rattle.elab_model.proofs.Ensures.{Each, Ensures}
 
@@ -74,31 +74,45 @@ head-deep u n t = by_step n t (written_step u t) refl (step-deep u t)
     by_step zero a (blocked z) e h = subst EndsDeep (sym (spends (written_move u) (at a) (fallen z) (rw e refl))) tt
     by_step (suc n) a (blocked z) e h = subst EndsDeep (sym (goes (written_move u) (at a) (fallen z) (rw e refl) n ∙ stops (written_move u) (fallen z) (no_value z) refl n)) h
 
-halts-deep : {A : Type 0} (f : Span) (h : Halt) → h ≡ deep → by_halt {A = A} f h ≡ out_of_scope → ⊥
-halts-deep f deep e i = grind arith
-halts-deep f ill_classed e i = grind arith
+-- ---- what is found at some budget, which is something
 
-each-answers : {A : Type 0} (e : Env) → EnvSound e → (n : ℕ) (P : A → Type 0) (q : Questions A) → Each e P q → answer e n q ≡ out_of_scope → ⊥
-each-answers e g n P (gives x) s i = grind arith
-each-answers e g n P (rejects p w) s i = grind arith
-each-answers e g n P (deep_at f) s i = grind arith
-each-answers e g n P astray s i = s
-each-answers e g n P (ask_same f p w a b q) ((vs, c, k, x, y), s) i =
-    by_compare (compare (bodies (signature e.items)) n a b) (λ z j l. compare-halts (item_sorts e.items) (bodies (signature e.items)) (items-fit e.items g.items g.erasures).bodies_fit n vs c a b z j k x y l)
-    (λ j l. each-answers e g n P q (s (compare-joined (bodies (signature e.items)) n a b j l))) i
-  where
-    by_compare : (o : Budgeted Answer) → ((z : Halt) (j : ℕ) → o ≡ answered (halted z) j → z ≡ deep) → ((j : ℕ) → o ≡ answered same j → answer e n q ≡ out_of_scope → ⊥) → by_answer f p w o (answer e n q) ≡ out_of_scope → ⊥
-    by_compare (answered same j) h l m = l j refl m
-    by_compare (answered (apart u v) j) h l m = grind arith
-    by_compare (answered (halted z) j) h l m = halts-deep f z (h z j refl) m
-    by_compare spent h l m = grind arith
-each-answers e g n P (ask_head f p d a k) s i =
-    by_form (head_in e d n a) (head-deep (all_but (kept_names e d) e.items) n a) (λ b j l. each-answers e g n P (k b) (s b (record { units = n; left = j; is = l }))) i
-  where
-    by_form : (o : Budgeted HeadAnswer) → EndsDeep o → ((b : Tree) (j : ℕ) → o ≡ answered (value b) j → answer e n (k b) ≡ out_of_scope → ⊥) → by_head f p o (λ b. answer e n (k b)) ≡ out_of_scope → ⊥
-    by_form (answered (value b) j) h l m = l b j refl m
-    by_form (answered (no_value z) j) h l m = halts-deep f z h m
-    by_form spent h l m = grind arith
+abbrev FoundHolds : {A : Type 0} → (A → Type 0) → Finding A → Type 0
+FoundHolds P (found x) = P x
+FoundHolds P out_of_scope = ⊥
+FoundHolds P r = Unit {0}
 
-pub ensures-answer : {A : Type 0} {e : Env} {P : A → Type 0} {q : Questions A} → EnvSound e → (n : ℕ) → Ensures e P q → answer e n q ≡ out_of_scope → ⊥
-ensures-answer {e = e} {P = P} {q = q} g n h = each-answers e g n P q h.each
+halt-holds : {A : Type 0} (P : A → Type 0) (f : Span) (h : Halt) → h ≡ deep → FoundHolds P (by_halt f h)
+halt-holds P f deep i = tt
+halt-holds P f ill_classed i = absurd cc
+
+answer-holds : {A : Type 0} (e : Env) → EnvSound e → (n : ℕ) (P : A → Type 0) (q : Questions A) → Each e P q → FoundHolds P (answer e n q)
+answer-holds e g n P (gives x) h = h
+answer-holds e g n P (rejects p w) h = tt
+answer-holds e g n P (deep_at f) h = tt
+answer-holds e g n P astray h = h
+answer-holds e g n P (ask_same f p w a b q) ((vs, c, k, x, y), h) =
+    by_compare (compare is n a b) (λ z j l. compare-halts (item_sorts e.items) is (items-fit e.items g.items g.erasures).bodies_fit n vs c a b z j k x y l)
+    (λ j l. answer-holds e g n P q (h (compare-joined is n a b j l)))
+  where
+    is : List Tree
+    is = bodies (signature e.items)
+
+    by_compare : (o : Budgeted Answer) → ((z : Halt) (j : ℕ) → o ≡ answered (halted z) j → z ≡ deep) → ((j : ℕ) → o ≡ answered same j → FoundHolds P (answer e n q))
+        → FoundHolds P (by_answer f p w o (answer e n q))
+    by_compare (answered same j) u v = v j refl
+    by_compare (answered (apart x y) j) u v = tt
+    by_compare (answered (halted z) j) u v = halt-holds P f z (u z j refl)
+    by_compare spent u v = tt
+answer-holds e g n P (ask_head f p d a k) h =
+    by_form (head_in e d n a) (head-deep (all_but (kept_names e d) e.items) n a) (λ b j l. answer-holds e g n P (k b) (h b (record { units = n; left = j; is = l })))
+  where
+    by_form : (o : Budgeted HeadAnswer) → EndsDeep o → ((b : Tree) (j : ℕ) → o ≡ answered (value b) j → FoundHolds P (answer e n (k b))) → FoundHolds P (by_head f p o (λ b. answer e n (k b)))
+    by_form (answered (value b) j) u v = v b j refl
+    by_form (answered (no_value z) j) u v = halt-holds P f z u
+    by_form spent u v = tt
+
+pub ensured : {A : Type 0} {e : Env} {P : A → Type 0} {q : Questions A} {x : A} → EnvSound e → (n : ℕ) → Ensures e P q → answer e n q ≡ found x → P x
+ensured {e = e} {P = P} {q = q} g n h i = subst (FoundHolds P) i (answer-holds e g n P q h.each)
+
+pub is-answered : {A : Type 0} {e : Env} {P : A → Type 0} {q : Questions A} → EnvSound e → (n : ℕ) → Ensures e P q → answer e n q ≡ out_of_scope → ⊥
+is-answered {e = e} {P = P} {q = q} g n h i = subst (FoundHolds P) i (answer-holds e g n P q h.each)
