@@ -1,0 +1,3 @@
+pub mod Items
+pub mod Spines
+pub mod Heads
