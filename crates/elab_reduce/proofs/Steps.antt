@@ -228,8 +228,8 @@ module _ (u : Unfolding) where
 
   pub of_popped : {h k : Tree} {xs : List EArg} (ys : List EArg) {x y : EArg} (old new : ℕ) (r : Result Tree ElabStop) → h ≡ k → xs ≡ ys ++ (x ∷ []) → x ≡ y
       → IsStep u k (ys ++ (y ∷ [])) old ys new r → IsStep u h xs old ys new r
-  of_popped {k = k} ys {y = y} old new r e f g s =
-      subst (λ z. IsStep u z _ old ys new r) (sym e) (subst (λ z. IsStep u k z old ys new r) (sym (f ∙ ap (λ z. ys ++ (z ∷ [])) g)) s)
+  of_popped {k = k} {xs = xs} ys {y = y} old new r e f g s =
+      subst (λ z. IsStep u z xs old ys new r) (sym e) (subst (λ z. IsStep u k z old ys new r) (sym (f ∙ ap (λ z. ys ++ (z ∷ [])) g)) s)
 
   -- a head that is a function moves only with an argument of its kind
   pub moving : {h k : Tree} {xs : List EArg} (ys : List EArg) {x y : EArg} → h ≡ k → xs ≡ ys ++ (x ∷ []) → x ≡ y → (IsStill u h (innermost xs) → ⊥) → IsStill u k (Some y) → ⊥
