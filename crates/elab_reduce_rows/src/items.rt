@@ -54,7 +54,13 @@ fn twice(alloc: Global, item: u32) -> Made<EType> {
 /// Puts the items.
 pub(crate) fn fill(alloc: Global, env: &mut Env) -> Made<()> {
     let product = pi(alloc, EType::var(alloc, 0), EType::var(alloc, 1));
-    push_type(alloc, env, "data", allt(alloc, product), Some(datatype(alloc)))?;
+    push_type(
+        alloc,
+        env,
+        "data",
+        allt(alloc, product),
+        Some(datatype(alloc)),
+    )?;
     push_term(alloc, env, "term", ETerm::name(alloc, 0))?;
     push_type(alloc, env, "once", identity(alloc), None)?;
     for item in 2..TOP {
