@@ -25,17 +25,41 @@ fn show_term(tree: &ETerm, page: &mut Page) {
     }
 }
 
+/// A form over a kind has the kind of types: no row has another.
 #[cycle(show)]
 pub(crate) fn show_type(tree: &EType, page: &mut Page) {
     match tree.form() {
         ETypeForm::Var(number) => page.number(" X", *number as u64),
         ETypeForm::Name(number) => page.number(" N", *number as u64),
         ETypeForm::Unknown(number) => page.number(" ?", *number as u64),
-        ETypeForm::Pi(domain, part) => show_types(" (pi", domain, part, page),
-        ETypeForm::Tlam(domain, part) => show_types(" (tlam", domain, part, page),
-        ETypeForm::On(head, arg) => show_types(" (on", head, arg, page),
-        ETypeForm::Allt(_, part) => show_bound(" (allt star", part, page),
-        ETypeForm::Xtlam(_, part) => show_bound(" (xtlam star", part, page),
+        ETypeForm::Pi(domain, part) => {
+            page.word(" (pi");
+            show_type(domain, page);
+            show_type(part, page);
+            page.word(")");
+        }
+        ETypeForm::Tlam(domain, part) => {
+            page.word(" (tlam");
+            show_type(domain, page);
+            show_type(part, page);
+            page.word(")");
+        }
+        ETypeForm::On(head, arg) => {
+            page.word(" (on");
+            show_type(head, page);
+            show_type(arg, page);
+            page.word(")");
+        }
+        ETypeForm::Allt(_, part) => {
+            page.word(" (allt star");
+            show_type(part, page);
+            page.word(")");
+        }
+        ETypeForm::Xtlam(_, part) => {
+            page.word(" (xtlam star");
+            show_type(part, page);
+            page.word(")");
+        }
         ETypeForm::At(head, arg) => {
             page.word(" (at");
             show_type(head, page);
@@ -50,20 +74,4 @@ pub(crate) fn show_type(tree: &EType, page: &mut Page) {
         }
         _ => page.word(" another"),
     }
-}
-
-#[cycle(show)]
-fn show_types(word: &str, left: &EType, right: &EType, page: &mut Page) {
-    page.word(word);
-    show_type(left, page);
-    show_type(right, page);
-    page.word(")");
-}
-
-/// A form over the kind of types: no row has another kind.
-#[cycle(show)]
-fn show_bound(word: &str, part: &EType, page: &mut Page) {
-    page.word(word);
-    show_type(part, page);
-    page.word(")");
 }
