@@ -146,7 +146,7 @@ module _ (u : Unfolding) where
     contracts_stopped ys old new z.NoMemory l g = tt
 
   -- an argument of the head is put on the list
-  pub unwinds : (p : Tree) (xs : List EArg) (x : EArg) (r : Tree) (units : ℕ) → r ≡ p → depth (apply (arg_function x) p (arg_tree x)) ≤ 32768
+  unwinds : (p : Tree) (xs : List EArg) (x : EArg) (r : Tree) (units : ℕ) → r ≡ p → depth (apply (arg_function x) p (arg_tree x)) ≤ 32768
       → IsStep u (apply (arg_function x) p (arg_tree x)) xs units (xs ++ (x ∷ [])) units (Ok r)
   unwinds p xs x r units e l = (
     rw e (ap (head_written u units) (sym (spine_push p xs x))),

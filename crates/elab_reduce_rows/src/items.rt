@@ -1,7 +1,7 @@
 //! The items of the rows.
 //!
-//! Item 0 is a datatype's name, `(allt X star (pi x X X))`, and item 1 is a term. Item 2 is the identity of types, and each of the next twenty
-//! applies the one before it twice: item 3 is `(xtlam X star (on N2 (on N2 X)))`, and so on to item 22.
+//! Item 0 is a datatype's name, `(allt X star (pi x X X))`, and item 1 is a term. Item 2 is the identity of types, and each of the next ten
+//! applies the one before it twice: item 3 is `(xtlam X star (on N2 (on N2 X)))`, and so on to item 12.
 use crate::Made;
 use crate::trees::{allt, identity, on, pi, xtlam};
 use cdle_model::Text;
@@ -9,7 +9,7 @@ use elab_tree::{Datatype, EKind, ETerm, EType, Env, OutItem};
 use std::alloc::Global;
 
 /// The last of the items that apply the one before twice.
-pub(crate) const TOP: u32 = 22;
+pub(crate) const TOP: u32 = 12;
 
 /// Puts a definition of a type under the kind of types last.
 fn push_type(

@@ -25,53 +25,44 @@ fn show_term(tree: &ETerm, page: &mut Page) {
     }
 }
 
-/// A form over a kind has the kind of types: no row has another.
 #[cycle(show)]
 pub(crate) fn show_type(tree: &EType, page: &mut Page) {
+    page.word(opening(tree.form()));
     match tree.form() {
-        ETypeForm::Var(number) => page.number(" X", *number as u64),
-        ETypeForm::Name(number) => page.number(" N", *number as u64),
-        ETypeForm::Unknown(number) => page.number(" ?", *number as u64),
-        ETypeForm::Pi(domain, part) => {
-            page.word(" (pi");
-            show_type(domain, page);
-            show_type(part, page);
-            page.word(")");
+        ETypeForm::Var(number) | ETypeForm::Name(number) | ETypeForm::Unknown(number) => {
+            return page.number("", *number as u64);
         }
-        ETypeForm::Tlam(domain, part) => {
-            page.word(" (tlam");
-            show_type(domain, page);
-            show_type(part, page);
-            page.word(")");
+        ETypeForm::Pi(left, right) | ETypeForm::Tlam(left, right) | ETypeForm::On(left, right) => {
+            show_type(left, page);
+            show_type(right, page);
         }
-        ETypeForm::On(head, arg) => {
-            page.word(" (on");
-            show_type(head, page);
-            show_type(arg, page);
-            page.word(")");
-        }
-        ETypeForm::Allt(_, part) => {
-            page.word(" (allt star");
-            show_type(part, page);
-            page.word(")");
-        }
-        ETypeForm::Xtlam(_, part) => {
-            page.word(" (xtlam star");
-            show_type(part, page);
-            page.word(")");
-        }
+        ETypeForm::Allt(_, part) | ETypeForm::Xtlam(_, part) => show_type(part, page),
         ETypeForm::At(head, arg) => {
-            page.word(" (at");
             show_type(head, page);
             show_term(arg, page);
-            page.word(")");
         }
         ETypeForm::Eq(left, right) => {
-            page.word(" (eq");
             show_pure(left, page);
             show_pure(right, page);
-            page.word(")");
         }
-        _ => page.word(" another"),
+        _ => page.word("another"),
+    }
+    page.word(")");
+}
+
+/// How the form begins. One over a kind has the kind of types: no row has another.
+fn opening(form: &ETypeForm) -> &str {
+    match form {
+        ETypeForm::Var(_) => " X",
+        ETypeForm::Name(_) => " N",
+        ETypeForm::Unknown(_) => " ?",
+        ETypeForm::Pi(_, _) => " (pi",
+        ETypeForm::Tlam(_, _) => " (tlam",
+        ETypeForm::On(_, _) => " (on",
+        ETypeForm::Allt(_, _) => " (allt star",
+        ETypeForm::Xtlam(_, _) => " (xtlam star",
+        ETypeForm::At(_, _) => " (at",
+        ETypeForm::Eq(_, _) => " (eq",
+        _ => " (",
     }
 }
