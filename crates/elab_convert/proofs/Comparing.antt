@@ -12,7 +12,7 @@ use Rattle.elab_convert.specs.Heads.{IsNoHead}
 use Rattle.elab_convert.specs.declared.side.SidePair.{SidePair}
 use Rattle.elab_convert.specs.declared.side.Arg.{Arg}
 use Rattle.elab_convert.specs.Sides.{item_of, pair_trees, spine, stack}
-use Rattle.elab_convert.specs.Answers.{IsAnswer, IsCompared, IsTurn, IsSettled}
+use Rattle.elab_convert.specs.Answers.{IsAnswer, IsCompared, IsMeeting, IsSettled, IsTurn}
 use Rattle.elab_convert.proofs.Settling.{stack_push}
 
 -- two states with one move have one run
@@ -114,12 +114,6 @@ pair_named s a b ps old new e f = let i : old ≡ suc new = omega arith in rw i 
 pub pair_taken : (s : List Tree) (a b : Tree) (ps : List Pair) (old new : ℕ) → old ≡ new + 1 → same_name a b ≡ false → run (move s) old (pairs ((a, b) ∷ ps)) ≡ run (move s) new (taken a b ps)
 pair_taken s a b ps old new e f = let i : old ≡ suc new = omega arith in rw i (goes (move s) (pairs ((a, b) ∷ ps)) (taken a b ps) (rw f refl) new)
 
--- what ends after a move ends so before
-pub ends_so : (s : List Tree) (n m : ℕ) (ps : List Pair) (x : State) (e : ConvertStop) → run (move s) n (pairs ps) ≡ run (move s) m x → IsAnswer (run (move s) m x) (Err e) → IsCompared s n ps (Err e)
-ends_so s n m ps x Spent e k = e ∙ k
-ends_so s n m ps x TooDeep e k = (k.0, e ∙ k.1)
-ends_so s n m ps x NoMemory e k = tt
-
 pub carried : (s : List Tree) (n m : ℕ) (ps qs : List Pair) (o : Result Bool ConvertStop) → run (move s) n (pairs ps) ≡ run (move s) m (pairs qs) → IsCompared s m qs o → IsCompared s n ps o
 carried s n m ps qs (Ok true) e k = (k.0, e ∙ k.1)
 carried s n m ps qs (Ok false) e k = (k.0, k.1, k.2, e ∙ k.3)
@@ -131,34 +125,44 @@ carried s n m ps qs (Err NoMemory) e k = tt
 pub all_same : (s : List Tree) (n : ℕ) → IsCompared s n [] (Ok true)
 all_same s n = (n, stops (move s) (pairs []) same refl n)
 
+-- a pair that was taken, to the head form of its left
+module _ (s : List Tree) (a b : Tree) (ps : List Pair) (n : ℕ) (v : Tree) (m : ℕ) (h : (head_form s n a ≡ answered (value v) m) × (m ≤ n)) where
+  pub left_still : head_step s v ≡ none
+  left_still = (head_left s n a (head_step s a) refl v m h.0).0
+
+  pub left_met : (left : ℕ) (qs : List Pair) (o : Result Bool ConvertStop) → IsMeeting s m (taken v b ps) left qs o → IsMeeting s n (taken a b ps) left qs o
+  left_met left qs o k = met_from n m (taken a b ps) (taken v b ps) h.1 ((head_left s n a (head_step s a) refl v m h.0).1 b ps) left qs o k
+    where
+      met_from : (n m : ℕ) (x y : State) → m ≤ n → run (move s) n x ≡ run (move s) m y → (left : ℕ) (qs : List Pair) (o : Result Bool ConvertStop) → IsMeeting s m y left qs o → IsMeeting s n x left qs o
+      met_from n m x y l e left qs (Ok true) k = (e ∙ k.0, (let i = k.1 in omega arith))
+      met_from n m x y l e left qs (Ok false) k = (k.0, k.1, k.2, e ∙ k.3)
+      met_from n m x y l e left qs (Err Spent) k = e ∙ k
+      met_from n m x y l e left qs (Err TooDeep) k = (k.0, e ∙ k.1)
+      met_from n m x y l e left qs (Err NoMemory) k = tt
+
+-- and then to that of its right, in place of which stand the pairs of their parts
+module _ (s : List Tree) (v b : Tree) (n : ℕ) (k : head_step s v ≡ none) (w : Tree) (m : ℕ) (h : (head_form s n b ≡ answered (value w) m) × (m ≤ n)) where
+  both_met : (ps : List Pair) → run (move s) n (taken v b ps) ≡ run (move s) m (taken v w ps)
+  both_met ps = (head_right s n v b k (head_step s b) refl w m h.0).1 ps
+
+  right_still : head_step s w ≡ none
+  right_still = (head_right s n v b k (head_step s b) refl w m h.0).0
+
+  pub forms_settled : (before after : List SidePair) (o : Bool) → IsSettled v w before after o → IsMeeting s n (taken v b (stack [] before)) m (stack [] after) (Ok o)
+  forms_settled before after true q = (
+    both_met (stack [] before) ∙ split_into s v w (stack [] before) q.0 m k right_still q.1 ∙ ap (λ z. run (move s) m (pairs z)) (sym q.2),
+    h.1,
+  )
+  forms_settled before after false q = (m, v, w, both_met (stack [] before) ∙ split_apart s v w (stack [] before) m k right_still q)
+
 -- a whole turn, whose pair was no name on both sides
-module _ (s : List Tree) (a b : Tree) (ps : List Pair) (old n : ℕ) (e : old ≡ n + 1) (f : same_name a b ≡ false) where
-  pub turn_left : (x : ConvertStop) → IsNoHead s n a x → IsCompared s old ((a, b) ∷ ps) (Err x)
-  turn_left x h = ends_so s old n ((a, b) ∷ ps) (taken a b ps) x (pair_taken s a b ps old n e f) (left_ends s n a b ps x h)
-
-  module _ (v : Tree) (m : ℕ) (h : (head_form s n a ≡ answered (value v) m) × (m ≤ n)) where
-    left_taken : run (move s) old (pairs ((a, b) ∷ ps)) ≡ run (move s) m (taken v b ps)
-    left_taken = pair_taken s a b ps old n e f ∙ (head_left s n a (head_step s a) refl v m h.0).1 b ps
-
-    left_still : head_step s v ≡ none
-    left_still = (head_left s n a (head_step s a) refl v m h.0).0
-
-    pub turn_right : (x : ConvertStop) → IsNoHead s m b x → IsCompared s old ((a, b) ∷ ps) (Err x)
-    turn_right x k = ends_so s old m ((a, b) ∷ ps) (taken v b ps) x left_taken (right_ends s m v b ps x left_still k)
-
-    module _ (w : Tree) (l : ℕ) (k : (head_form s m b ≡ answered (value w) l) × (l ≤ m)) where
-      both_taken : run (move s) old (pairs ((a, b) ∷ ps)) ≡ run (move s) l (taken v w ps)
-      both_taken = left_taken ∙ (head_right s m v b left_still (head_step s b) refl w l k.0).1 ps
-
-      right_still : head_step s w ≡ none
-      right_still = (head_right s m v b left_still (head_step s b) refl w l k.0).0
-
-      pub turn_settled : (before after : List SidePair) (o : Bool) → ps ≡ stack [] before → IsSettled v w before after o → IsTurn s old ((a, b) ∷ ps) l (stack [] after) (Ok o)
-      turn_settled before after true i q = (
-        both_taken ∙ split_into s v w ps q.0 l left_still right_still q.1 ∙ ap (λ z. run (move s) l (pairs z)) (ap (λ z. q.0 ++ z) i ∙ sym q.2),
-        (let x = h.1 in let y = k.1 in omega arith),
-      )
-      turn_settled before after false i q = (l, v, w, both_taken ∙ split_apart s v w ps l left_still right_still q)
+pub turn_met : (s : List Tree) (a b : Tree) (ps : List Pair) (old n : ℕ) → old ≡ n + 1 → same_name a b ≡ false → (left : ℕ) (qs : List Pair) (o : Result Bool ConvertStop)
+    → IsMeeting s n (taken a b ps) left qs o → IsTurn s old ((a, b) ∷ ps) left qs o
+turn_met s a b ps old n e f left qs (Ok true) k = (pair_taken s a b ps old n e f ∙ k.0, (let i = k.1 in omega arith))
+turn_met s a b ps old n e f left qs (Ok false) k = (k.0, k.1, k.2, pair_taken s a b ps old n e f ∙ k.3)
+turn_met s a b ps old n e f left qs (Err Spent) k = pair_taken s a b ps old n e f ∙ k
+turn_met s a b ps old n e f left qs (Err TooDeep) k = (k.0, pair_taken s a b ps old n e f ∙ k.1)
+turn_met s a b ps old n e f left qs (Err NoMemory) k = tt
 
 -- one name on both sides, by the numbers of the items
 pub both_names : (a b : Tree) (i j : ℕ) → Some i ≡ item_of a → Some j ≡ item_of b → same_name a b ≡ eqb i j

@@ -1,5 +1,5 @@
 -- The pairs in place of two head forms.
-use Rattle.std.proofs.Common.{◌≡◌, ◌⊎◌, inl, inr, ℕ, zero, suc, ◌+◌, ◌<◌, ◌≤◌, Bool, true, false, List, [], ◌∷◌, ◌++◌, length, get_or, Result, Ok, Err, IfOk, Some, None, refl, sym, ap, ◌∙◌, subst, arith, append_assoc}
+use Rattle.std.proofs.Common.{◌≡◌, ◌⊎◌, inl, inr, ℕ, zero, suc, ◌+◌, ◌<◌, ◌≤◌, Bool, true, false, List, [], ◌∷◌, ◌++◌, length, drop, get_or, Result, Ok, Err, IfOk, Some, None, refl, sym, ap, ◌∙◌, subst, arith, append_assoc}
 use Rattle.cdle_model.specs.Trees.{Function, of_pure, of_term, of_type, Leaf, star_of, unknown, pi_of, all_of, allt_of, iota_of, kpi_of, kpit_of, Tree, var, name, leaf, unary, fun, apply, binary, bind, shift}
 use Rattle.cdle_model.specs.Forms.{fn}
 use Rattle.cdle_model.specs.Comparison.{Head, variable, constant, argument, function, leaf_head, unary_head, former, binary_head, stuck, applied_head, head_of, parts_by, parts_of, pairs_of, Pair, function_of, applied, Split, into, differ, same_heads, against, split}
@@ -16,7 +16,7 @@ use Rattle.elab_convert.specs.declared.former.Word.{Word}
 use Rattle.elab_convert.specs.declared.former.Word.TheVariants as w
 use Rattle.elab_convert.specs.declared.former.Former.{Former}
 use Rattle.elab_convert.specs.Formers.{IsFormer, IsFormerOf, part_trees, word_head}
-use Rattle.elab_convert.specs.Sides.{arg_class, arg_function, arg_raised, rest_of, arg_tree, class_function, spine, root_tree, pair_trees, stack}
+use Rattle.elab_convert.specs.Sides.{arg_class, arg_function, arg_raised, arg_tree, class_function, spine, root_tree, pair_trees, stack}
 use Rattle.elab_convert.specs.Answers.{ArePartsPut, ArePut, IsSettled, classes, raised_all, zipped}
 
 pub if_ok : {A E : Type 0} (P Q : A → Type 0) (r : Result A E) → ((x : A) → P x → Q x) → IfOk r P → IfOk r Q
@@ -346,16 +346,16 @@ left_stuck h k (x ∷ xs) [] old new i j l m = two_heads (spine h (x ∷ xs)) k 
 
 module _ (h k : Tree) (x y : Arg) (old new : List SidePair) (i : IsFormer h) (j : IsFormer k) where
   pub stuck_settled : (xs ys : List Arg) (mid : List SidePair) → 0 < length xs → 0 < length ys → x ≡ get_or xs 0 x → y ≡ get_or ys 0 y → arg_class x ≡ arg_class y
-      → stack [] mid ≡ (arg_tree x, arg_tree y) ∷ stack [] old → stack [] new ≡ (spine h (rest_of xs), spine k (rest_of ys)) ∷ stack [] mid
+      → stack [] mid ≡ (arg_tree x, arg_tree y) ∷ stack [] old → stack [] new ≡ (spine h (drop 1 xs), spine k (drop 1 ys)) ∷ stack [] mid
       → IsSettled (spine h xs) (spine k ys) old new true
   stuck_settled [] ys mid l m f g e p q = absurd (omega arith)
   stuck_settled (u ∷ xs) [] mid l m f g e p q = absurd (omega arith)
   stuck_settled (u ∷ xs) (v ∷ ys) mid l m f g e p q =
       let f' : x ≡ u = f in let g' : y ≡ v = g in
       subst (λ z. IsSettled (spine h (z ∷ xs)) (spine k (v ∷ ys)) old new true) f' (subst (λ z. IsSettled (spine h (x ∷ xs)) (spine k (z ∷ ys)) old new true) g' (
-        one_head (spine h (x ∷ xs)) (spine k (y ∷ ys)) old new (plain_former h (x ∷ xs) i) (plain_former k (y ∷ ys) j)
-        (stuck_head h x xs i ∙ ap (λ z. stuck (class_function z)) e ∙ sym (stuck_head k y ys j))
-        (q ∙ ap (λ z. (spine h xs, spine k ys) ∷ z) p ∙ ap (λ z. pairs_of z (spine k ys ∷ arg_tree y ∷ []) ++ stack [] old) (sym (stuck_tree_parts h x xs i)) ∙ ap (λ z. pairs_of (parts_of (spine h (x ∷ xs))) z ++ stack [] old) (sym (stuck_tree_parts k y ys j)))
+      one_head (spine h (x ∷ xs)) (spine k (y ∷ ys)) old new (plain_former h (x ∷ xs) i) (plain_former k (y ∷ ys) j)
+      (stuck_head h x xs i ∙ ap (λ z. stuck (class_function z)) e ∙ sym (stuck_head k y ys j))
+      (q ∙ ap (λ z. (spine h xs, spine k ys) ∷ z) p ∙ ap (λ z. pairs_of z (spine k ys ∷ arg_tree y ∷ []) ++ stack [] old) (sym (stuck_tree_parts h x xs i)) ∙ ap (λ z. pairs_of (parts_of (spine h (x ∷ xs))) z ++ stack [] old) (sym (stuck_tree_parts k y ys j)))
       ))
 
   pub stuck_apart : (xs ys : List Arg) → 0 < length xs → 0 < length ys → x ≡ get_or xs 0 x → y ≡ get_or ys 0 y → (arg_class x ≡ arg_class y → ⊥) → IsSettled (spine h xs) (spine k ys) old new false
@@ -365,8 +365,8 @@ module _ (h k : Tree) (x y : Arg) (old new : List SidePair) (i : IsFormer h) (j 
       let f' : x ≡ u = f in let g' : y ≡ v = g in
       two_heads (spine h (u ∷ xs)) (spine k (v ∷ ys)) old new (plain_former h (u ∷ xs) i) (plain_former k (v ∷ ys) j)
       (λ r. let r' : stuck (arg_function u) ≡ stuck (arg_function v) = sym (stuck_head h u xs i) ∙ r ∙ stuck_head k v ys j in
-       let t : arg_function u ≡ arg_function v = cc in
-       e (ap arg_class f' ∙ one_class (arg_class u) (arg_class v) t ∙ sym (ap arg_class g')))
+      let t : arg_function u ≡ arg_function v = cc in
+      e (ap arg_class f' ∙ one_class (arg_class u) (arg_class v) t ∙ sym (ap arg_class g')))
 
 -- ---- raised arguments
 

@@ -196,9 +196,15 @@ module _ (s : List Tree) where
 
     -- a function of types under an argument that is not its own is stuck
     pub stuck_at : ((t : Tree) → x ≡ a.OfTerm t → ⊥) → (n : ℕ) → IsMove s (fun of_term b) (xs ++ (x ∷ [])) n (xs ++ (x ∷ [])) n (Ok m.Former)
-    stuck_at h n = ((step_none (spine (fun of_term b) (xs ++ (x ∷ []))) n (
-      ap (head_step s) (spine_push (fun of_term b) xs x) ∙ spine_step (apply (arg_function x) (fun of_term b) (arg_tree x)) xs tt ∙ ap (under xs) (other x h) ∙ under_none xs
-    ), refl), tt)
+    stuck_at h n = (
+      (
+        step_none (spine (fun of_term b) (xs ++ (x ∷ []))) n (
+            ap (head_step s) (spine_push (fun of_term b) xs x) ∙ spine_step (apply (arg_function x) (fun of_term b) (arg_tree x)) xs tt ∙ ap (under xs) (other x h) ∙ under_none xs
+            ),
+        refl,
+      ),
+      tt,
+    )
       where
         other : (x : Arg) → ((t : Tree) → x ≡ a.OfTerm t → ⊥) → head_step s (apply (arg_function x) (fun of_term b) (arg_tree x)) ≡ none
         other (a.OfPure t) h = refl
@@ -206,9 +212,15 @@ module _ (s : List Tree) where
         other (a.OfType t) h = refl
 
     pub stuck_on : ((t : Tree) → x ≡ a.OfType t → ⊥) → (n : ℕ) → IsMove s (fun of_type b) (xs ++ (x ∷ [])) n (xs ++ (x ∷ [])) n (Ok m.Former)
-    stuck_on h n = ((step_none (spine (fun of_type b) (xs ++ (x ∷ []))) n (
-      ap (head_step s) (spine_push (fun of_type b) xs x) ∙ spine_step (apply (arg_function x) (fun of_type b) (arg_tree x)) xs tt ∙ ap (under xs) (other x h) ∙ under_none xs
-    ), refl), tt)
+    stuck_on h n = (
+      (
+        step_none (spine (fun of_type b) (xs ++ (x ∷ []))) n (
+            ap (head_step s) (spine_push (fun of_type b) xs x) ∙ spine_step (apply (arg_function x) (fun of_type b) (arg_tree x)) xs tt ∙ ap (under xs) (other x h) ∙ under_none xs
+            ),
+        refl,
+      ),
+      tt,
+    )
       where
         other : (x : Arg) → ((t : Tree) → x ≡ a.OfType t → ⊥) → head_step s (apply (arg_function x) (fun of_type b) (arg_tree x)) ≡ none
         other (a.OfPure t) h = refl

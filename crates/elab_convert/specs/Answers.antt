@@ -1,9 +1,9 @@
 -- What the answers of the comparison say, by its definition.
-use Rattle.std.specs.Prelude.{◌≡◌, ℕ, ◌<◌, Bool, true, false, List, [], ◌∷◌, ◌++◌, Result, Ok, Err}
+use Rattle.std.specs.Prelude.{◌≡◌, ℕ, ◌<◌, ◌≤◌, Bool, true, false, List, [], ◌∷◌, ◌++◌, Result, Ok, Err}
 use Rattle.cdle_model.specs.Trees.{Tree, shift}
 use Rattle.cdle_model.specs.Machine.{Budgeted, run, answered, spent}
 use Rattle.cdle_model.specs.HeadForms.{deep}
-use Rattle.cdle_model.specs.Comparison.{Answer, Pair, into, differ, split, same, apart, halted, pairs, pairs_of, move}
+use Rattle.cdle_model.specs.Comparison.{Answer, Pair, into, differ, split, same, apart, halted, pairs, pairs_of, State, move}
 use Rattle.elab_convert.specs.declared.side.Arg.{Arg}
 use Rattle.elab_convert.specs.declared.side.ArgClass.{ArgClass}
 use Rattle.elab_convert.specs.declared.side.SidePair.{SidePair}
@@ -30,6 +30,11 @@ IsCompared s n ps o = IsAnswer (run (move s) n (pairs ps)) o
 abbrev pub IsTurn : List Tree → ℕ → List Pair → ℕ → List Pair → Result Bool ConvertStop → Type 0
 IsTurn s n ps m qs (Ok true) = (run (move s) n (pairs ps) ≡ run (move s) m (pairs qs)) × (m < n)
 IsTurn s n ps m qs o = IsCompared s n ps o
+
+-- so from a state at a pair that was taken
+abbrev pub IsMeeting : List Tree → ℕ → State → ℕ → List Pair → Result Bool ConvertStop → Type 0
+IsMeeting s n x m qs (Ok true) = (run (move s) n x ≡ run (move s) m (pairs qs)) × (m ≤ n)
+IsMeeting s n x m qs o = IsAnswer (run (move s) n x) o
 
 -- in place of two head forms the pairs of their parts were put on the list, or the two differ
 abbrev pub IsSettled : Tree → Tree → List SidePair → List SidePair → Bool → Type 0

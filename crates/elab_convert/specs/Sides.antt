@@ -51,11 +51,6 @@ abbrev pub spine : Tree → List Arg → Tree
 spine h [] = h
 spine h (x ∷ xs) = apply (arg_function x) (spine h xs) (arg_tree x)
 
--- the arguments without the outermost
-abbrev pub rest_of : List Arg → List Arg
-rest_of [] = []
-rest_of (x ∷ xs) = xs
-
 abbrev pub side_tree : Side → Tree
 side_tree d = spine (erased_tree d.head) d.args.items
 

@@ -1,14 +1,15 @@
 //! The comparison, by the list of the pairs that are left.
 ghost use Rattle.std.specs.Prelude.{◌≡◌, ◌∷◌, []};
-ghost use Rattle.cdle_model.specs.Comparison.{compare as definition, same_name as names_same};
-ghost use Rattle.elab_convert.specs.Answers.{IsAnswer, IsCompared, IsTurn};
+ghost use Rattle.cdle_model.specs.Comparison.{compare as definition, same_name as names_same, taken};
+ghost use Rattle.cdle_model.specs.HeadForms.{head_step, none};
+ghost use Rattle.elab_convert.specs.Answers.{IsAnswer, IsCompared, IsMeeting, IsTurn};
 ghost use Rattle.elab_convert.specs.Bodies.{erased_bodies};
 ghost use Rattle.elab_convert.specs.Formers.{part_tree};
-ghost use Rattle.elab_convert.specs.Sides.{pair_trees, side_tree, stack};
+ghost use Rattle.elab_convert.specs.Sides.{IsForm, form_tree, pair_trees, side_tree, stack};
 
 use crate::head::head;
 use crate::settle::{put_parts, settle};
-use crate::side::{Part, Side, SidePair};
+use crate::side::{HeadForm, Part, Side, SidePair};
 use crate::stop::{ConvertStop, Units};
 use elab_tree::{EGuide, EGuideKind, EPure, Env};
 use std::alloc::Global;
@@ -103,16 +104,45 @@ fn turn(
     if same_name(&pair.left, &pair.right) {
         return Ok(true);
     }
+    meet(alloc, env, pair, pairs, left)
+}
+
+/// The two of a pair that was taken are brought to their head forms, first the left.
+fn meet(
+    alloc: Global,
+    env: &Env,
+    pair: SidePair,
+    pairs: &mut Vec<SidePair>,
+    left: &mut Units,
+) -> Result<bool, ConvertStop>
+    ensures { IsMeeting (erased_bodies env.now) left.old.left (taken (side_tree pair.left) (side_tree pair.right) (stack [] pairs.old.items)) left.new.left (stack [] pairs.new.items) result }
+{
     let SidePair { left: a, right: b } = pair;
     let a = match head(alloc, env, a, left) {
         Ok(form) => form,
         Err(stop) => return Err(stop),
     };
+    meet_form(alloc, env, &a, b, pairs, left)
+}
+
+/// The right one is brought to its head form too, and their parts are put on the list.
+fn meet_form(
+    alloc: Global,
+    env: &Env,
+    a: &HeadForm,
+    b: Side,
+    pairs: &mut Vec<SidePair>,
+    left: &mut Units,
+) -> Result<bool, ConvertStop>
+    requires form { IsForm a.now }
+    requires still { head_step (erased_bodies env.now) (form_tree a.now) ≡ none }
+    ensures { IsMeeting (erased_bodies env.now) left.old.left (taken (form_tree a.now) (side_tree b) (stack [] pairs.old.items)) left.new.left (stack [] pairs.new.items) result }
+{
     let b = match head(alloc, env, b, left) {
         Ok(form) => form,
         Err(stop) => return Err(stop),
     };
-    Ok(settle(alloc, a, b, pairs)?)
+    Ok(settle(alloc, a, &b, pairs)?)
 }
 
 /// Whether both sides are the same name.

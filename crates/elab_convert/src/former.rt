@@ -6,7 +6,7 @@ use crate::side::Part;
 use elab_tree::{EGuide, EGuideForm, EGuideKind, EGuideKindForm};
 
 /// The words of the formers.
-#[derive(Clone, Copy, Debug, PartialEq, Eq)]
+#[derive(Clone, Copy, PartialEq, Eq)]
 pub(crate) enum Word {
     Star,
     Unknown(u32),

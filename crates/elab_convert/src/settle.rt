@@ -1,10 +1,11 @@
 //! The pairs in place of two head forms.
-ghost use Rattle.std.specs.Prelude.{◌≡◌, ◌<◌, ◌++◌, ◌∷◌, [], IfOk, ◌↔◌, IsTrue, length};
+ghost use Rattle.std.specs.Prelude.{◌≡◌, ◌<◌, ◌++◌, ◌∷◌, [], IfOk, ◌↔◌, IsTrue, drop, length};
 ghost use Rattle.cdle_model.specs.Comparison.{applied as applied_tree};
+ghost use Rattle.cdle_model.specs.Forms.{fn};
 ghost use Rattle.cdle_model.specs.Trees.{shift, var};
 ghost use Rattle.elab_convert.specs.Answers.{ArePut, ArePartsPut, IsSettled, raised_all};
 ghost use Rattle.elab_convert.specs.Formers.{IsFormer, part_tree};
-ghost use Rattle.elab_convert.specs.Sides.{IsForm, erased_tree, form_tree, rest_of, root_tree, side_tree, spine, stack};
+ghost use Rattle.elab_convert.specs.Sides.{IsForm, erased_tree, form_tree, root_tree, side_tree, spine, stack};
 ghost use Rattle.elab_convert.specs.declared.side.Arg.TheVariants.{OfPure};
 
 use crate::former::{Former, Parts, Word, as_former};
@@ -15,42 +16,96 @@ use std::alloc::Global;
 /// Puts the pairs in place of two head forms on the list; false where the two differ.
 pub(crate) fn settle(
     alloc: Global,
-    left: HeadForm,
-    right: HeadForm,
+    left: &HeadForm,
+    right: &HeadForm,
     pairs: &mut Vec<SidePair>,
 ) -> Result<bool, NoMemory>
-    requires left { IsForm left }
-    requires right { IsForm right }
-    ensures { IfOk result (λ b. IsSettled (form_tree left) (form_tree right) pairs.old.items pairs.new.items b) }
+    requires left { IsForm left.now }
+    requires right { IsForm right.now }
+    ensures { IfOk result (λ b. IsSettled (form_tree left.now) (form_tree right.now) pairs.old.items pairs.new.items b) }
 {
     match (left, right) {
         (HeadForm::Function(left), HeadForm::Function(right)) => {
-            put_parts(alloc, Part::Term(&left), Part::Term(&right), pairs)?;
-            Ok(true)
+            settle_functions(alloc, left, right, pairs)
         }
         (HeadForm::Function(left), HeadForm::Applied(root, args)) => {
-            let right = applied(alloc, root, &args)?;
-            put_pair(Part::Term(&left).whole(alloc)?, right, pairs)?;
-            Ok(true)
+            settle_left_function(alloc, left, *root, args, pairs)
         }
         (HeadForm::Applied(root, args), HeadForm::Function(right)) => {
-            let left = applied(alloc, root, &args)?;
-            put_pair(left, Part::Term(&right).whole(alloc)?, pairs)?;
-            Ok(true)
+            settle_right_function(alloc, *root, args, right, pairs)
         }
         (HeadForm::Applied(left, xs), HeadForm::Applied(right, ys)) => {
-            if !same_root(left, right) {
-                return Ok(false);
-            }
-            put_arguments(alloc, &xs, &ys, pairs)
+            settle_roots(alloc, *left, xs, *right, ys, pairs)
         }
+        (HeadForm::Former(left), HeadForm::Former(right)) => settle_formers(
+            alloc, left, right, pairs,
+        ),
         (HeadForm::Applied(_, _), HeadForm::Former(_)) => Ok(false),
         (HeadForm::Former(_), HeadForm::Applied(_, _)) => Ok(false),
-        (HeadForm::Former(left), HeadForm::Former(right)) => settle_formers(alloc, left, right, pairs),
         // Not reached: the two sides of a pair are of one class, and no pure term is a former.
         (HeadForm::Function(_), HeadForm::Former(_)) => Err(NoMemory),
         (HeadForm::Former(_), HeadForm::Function(_)) => Err(NoMemory),
     }
+}
+
+/// Two functions: their bodies.
+fn settle_functions(
+    alloc: Global,
+    left: &EPure,
+    right: &EPure,
+    pairs: &mut Vec<SidePair>,
+) -> Result<bool, NoMemory>
+    ensures { IfOk result (λ b. IsSettled (fn left.now) (fn right.now) pairs.old.items pairs.new.items b) }
+{
+    put_parts(alloc, Part::Term(left), Part::Term(right), pairs)?;
+    Ok(true)
+}
+
+/// A function against another form: its body against that form applied to a new variable.
+fn settle_left_function(
+    alloc: Global,
+    left: &EPure,
+    root: Root,
+    args: &Vec<Arg>,
+    pairs: &mut Vec<SidePair>,
+) -> Result<bool, NoMemory>
+    ensures { IfOk result (λ b. IsSettled (fn left.now) (spine (root_tree root) args.now.items) pairs.old.items pairs.new.items b) }
+{
+    let right = applied(alloc, root, args)?;
+    put_pair(Part::Term(left).whole(alloc)?, right, pairs)?;
+    Ok(true)
+}
+
+/// The same with the function on the right.
+fn settle_right_function(
+    alloc: Global,
+    root: Root,
+    args: &Vec<Arg>,
+    right: &EPure,
+    pairs: &mut Vec<SidePair>,
+) -> Result<bool, NoMemory>
+    ensures { IfOk result (λ b. IsSettled (spine (root_tree root) args.now.items) (fn right.now) pairs.old.items pairs.new.items b) }
+{
+    let left = applied(alloc, root, args)?;
+    put_pair(left, Part::Term(right).whole(alloc)?, pairs)?;
+    Ok(true)
+}
+
+/// Two roots: their arguments, where the roots are one.
+fn settle_roots(
+    alloc: Global,
+    left: Root,
+    xs: &Vec<Arg>,
+    right: Root,
+    ys: &Vec<Arg>,
+    pairs: &mut Vec<SidePair>,
+) -> Result<bool, NoMemory>
+    ensures { IfOk result (λ b. IsSettled (spine (root_tree left) xs.now.items) (spine (root_tree right) ys.now.items) pairs.old.items pairs.new.items b) }
+{
+    if !same_root(left, right) {
+        return Ok(false);
+    }
+    put_arguments(alloc, xs, ys, pairs)
 }
 
 fn same_root(left: Root, right: Root) -> bool
@@ -142,13 +197,13 @@ fn put_arguments(
 /// The same of two formers, which are applied to nothing, or are stuck.
 fn settle_formers(
     alloc: Global,
-    left: Side,
-    right: Side,
+    left: &Side,
+    right: &Side,
     pairs: &mut Vec<SidePair>,
 ) -> Result<bool, NoMemory>
-    requires left { IsFormer (erased_tree left.head) }
-    requires right { IsFormer (erased_tree right.head) }
-    ensures { IfOk result (λ b. IsSettled (side_tree left) (side_tree right) pairs.old.items pairs.new.items b) }
+    requires left { IsFormer (erased_tree left.now.head) }
+    requires right { IsFormer (erased_tree right.now.head) }
+    ensures { IfOk result (λ b. IsSettled (side_tree left.now) (side_tree right.now) pairs.old.items pairs.new.items b) }
 {
     if left.args.len() == 0 {
         if right.args.len() == 0 {
@@ -162,36 +217,49 @@ fn settle_formers(
     settle_stuck(alloc, left, right, pairs)
 }
 
-/// Two stuck applications: what is applied, and before it the outermost arguments.
+/// Two stuck applications: what is applied is the next pair, and the outermost arguments are the one behind it.
 fn settle_stuck(
     alloc: Global,
-    left: Side,
-    right: Side,
+    left: &Side,
+    right: &Side,
     pairs: &mut Vec<SidePair>,
 ) -> Result<bool, NoMemory>
-    requires left { IsFormer (erased_tree left.head) }
-    requires right { IsFormer (erased_tree right.head) }
-    requires left_applied { 0 < length left.args.items }
-    requires right_applied { 0 < length right.args.items }
-    ensures { IfOk result (λ b. IsSettled (side_tree left) (side_tree right) pairs.old.items pairs.new.items b) }
+    requires left { IsFormer (erased_tree left.now.head) }
+    requires right { IsFormer (erased_tree right.now.head) }
+    requires left_applied { 0 < length left.now.args.items }
+    requires right_applied { 0 < length right.now.args.items }
+    ensures { IfOk result (λ b. IsSettled (side_tree left.now) (side_tree right.now) pairs.old.items pairs.new.items b) }
 {
     let (x, y) = (&left.args[0], &right.args[0]);
     if !same_class(x.class(), y.class()) {
         return Ok(false);
     }
     put_parts(alloc, x.part(), y.part(), pairs)?;
-    put_pair(inner(left), inner(right), pairs)?;
+    let left = inner(alloc, left)?;
+    put_pair(left, inner(alloc, right)?, pairs)?;
     Ok(true)
 }
 
 /// The side without its outermost argument.
-fn inner(side: Side) -> Side
-    requires { 0 < length side.args.items }
-    ensures { side_tree result ≡ spine (erased_tree side.head) (rest_of side.args.items) }
+fn inner(alloc: Global, side: &Side) -> Result<Side, NoMemory>
+    ensures { IfOk result (λ d. side_tree d ≡ spine (erased_tree side.now.head) (drop 1 side.now.args.items)) }
 {
-    let Side { head, mut args } = side;
-    drop(args.remove(0));
-    Side { head, args }
+    let args = inner_args(alloc, &side.args)?;
+    let head = side.head.once_more()?;
+    Ok(Side { head, args })
+}
+
+/// The arguments without the outermost.
+fn inner_args(alloc: Global, args: &Vec<Arg>) -> Result<Vec<Arg>, NoMemory>
+    ensures { IfOk result (λ xs. xs.items ≡ drop 1 args.now.items) }
+{
+    let mut list = Vec::new(alloc);
+    let mut k = 1;
+    'copied: while k < args.len() {
+        list.push(args[k].once_more()?)?;
+        k += 1;
+    }
+    Ok(list)
 }
 
 fn settle_parts(

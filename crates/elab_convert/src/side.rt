@@ -32,7 +32,7 @@ pub(crate) enum Arg {
 }
 
 /// Which of the three an argument is.
-#[derive(Clone, Copy, Debug, PartialEq, Eq)]
+#[derive(Clone, Copy, PartialEq, Eq)]
 pub(crate) enum ArgClass {
     OfPure,
     OfTerm,
@@ -54,7 +54,7 @@ pub(crate) struct SidePair {
 }
 
 /// What stands at the head of a head form that is no former: a variable, or an item that there is not.
-#[derive(Clone, Copy, Debug, PartialEq, Eq)]
+#[derive(Clone, Copy, PartialEq, Eq)]
 pub(crate) enum Root {
     Variable(u32),
     Constant(u32),
@@ -77,6 +77,17 @@ impl Erased {
             Erased::Term(term) => Part::Term(term),
             Erased::OfType(ty) => Part::OfType(ty),
             Erased::Kind(kind) => Part::Kind(kind),
+        }
+    }
+
+    /// The same tree once more.
+    pub(crate) fn once_more(&self) -> Result<Erased, NoMemory>
+        ensures { IfOk result (λ t. erased_tree t ≡ erased_tree self.now) }
+    {
+        match self {
+            Erased::Term(term) => Ok(Erased::Term(term.clone()?)),
+            Erased::OfType(ty) => Ok(Erased::OfType(ty.clone()?)),
+            Erased::Kind(kind) => Ok(Erased::Kind(kind.clone()?)),
         }
     }
 
@@ -153,6 +164,17 @@ impl Arg {
             Arg::OfPure(_) => ArgClass::OfPure,
             Arg::OfTerm(_) => ArgClass::OfTerm,
             Arg::OfType(_) => ArgClass::OfType,
+        }
+    }
+
+    /// The same argument once more.
+    pub(crate) fn once_more(&self) -> Result<Arg, NoMemory>
+        ensures { IfOk result (λ a. a ≡ self.now) }
+    {
+        match self {
+            Arg::OfPure(term) => Ok(Arg::OfPure(term.clone()?)),
+            Arg::OfTerm(term) => Ok(Arg::OfTerm(term.clone()?)),
+            Arg::OfType(ty) => Ok(Arg::OfType(ty.clone()?)),
         }
     }
 

@@ -9,5 +9,5 @@ returns-in-Some-Some c = if_ok
     (IsSettled (part_tree c.args.left) (part_tree c.args.right) c.args.pairs.now.items c.put_former.new.pairs.items)
     c.put_former.result
     (λ b h. formers_settled (part_tree c.args.left) (part_tree c.args.right) c.in-Some-Some.left c.in-Some-Some.right c.args.pairs.now.items c.put_former.new.pairs.items b
-      c.requires.left c.requires.right c.in-Some-Some.ensures c.in-Some-Some.ensures' h)
+    c.requires.left c.requires.right c.in-Some-Some.ensures c.in-Some-Some.ensures' h)
     c.put_former.ensures
