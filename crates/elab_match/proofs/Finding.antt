@@ -1,9 +1,9 @@
 -- What is found for the unknowns in their order.
-use Rattle.std.proofs.Common.{◌≡◌, ◌+◌, ◌<◌, ◌≤◌, ℕ, zero, suc, Bool, true, false, cond, List, [], ◌∷◌, ◌++◌, length, drop, Option, Some, None, get_or, is_some, slice_get, refl, sym, ap, ◌∙◌, subst, append_assoc, arith}
+use Rattle.std.proofs.Common.{◌≡◌, ◌<◌, ◌≤◌, ℕ, zero, suc, Bool, true, false, [], ◌∷◌, ◌++◌, length, drop, Option, Some, None, get_or, is_some, refl, sym, ap, ◌∙◌, subst, append_assoc, arith}
 use Rattle.std.proofs.lemmas.Bool.{false≢true}
 use Rattle.std.proofs.lemmas.List.{append-nil, drop_all, length_push}
 use Rattle.cdle_model.specs.Trees.{Tree}
-use Rattle.elab_model.specs.Instances.{Solution, found_in, all_found, mentions, Part, first_place, part_outside, outside, with_solved, asked, solved}
+use Rattle.elab_model.specs.Instances.{Solution, found_in, all_found, mentions, Part, first_place, part_outside, with_solved, solved}
 use Rattle.elab_match.specs.Answers.{standing, Extends}
 use Rattle.elab_match.proofs.Places.{place-mentioned}
 

@@ -1,5 +1,5 @@
 pub mod Solving
 pub mod Mentioned
 pub mod Places
-pub mod Marks
+pub mod Lowered
 pub mod Finding

@@ -1,7 +1,7 @@
 -- An unknown that has a place stands in the pattern.
 use Rattle.std.proofs.Common.{◌≡◌, ◌⊎◌, inl, inr, ℕ, suc, Bool, true, false, Option, Some, None, refl}
 use Rattle.cdle_model.specs.Trees.{of_term, of_type, Binder, Tree, leaf, apply, bind}
-use Rattle.elab_model.specs.Instances.{is_unknown, or_else, mentions, Part, or_part, of_domain, of_head, if_is, first_place}
+use Rattle.elab_model.specs.Instances.{is_unknown, or_else, mentions, Part, or_part, of_domain, if_is, first_place}
 use Rattle.elab_model.proofs.FoundParts.{of_head-is, of_domain-is, if_former-is}
 
 either-true : (a b : Bool) → a ≡ true → or_else a b ≡ true

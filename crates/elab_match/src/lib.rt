@@ -12,6 +12,7 @@ mod outside;
 mod place;
 mod same;
 mod solution;
+mod variables;
 
 pub use elab_tree::NoMemory;
 pub use laws::solving_puts_what_is_found;

@@ -13,7 +13,7 @@ use cdle_model::NoMemory;
 use elab_tree::EType;
 use std::alloc::Global;
 
-/// The deepest target; elaboration refuses deeper types.
+/// The deepest target.
 const DEEPEST: u32 = 4096;
 
 /// Extends the solution so that the pattern, with it put for its unknowns, erases as the target does. False where no solution does that; then, and
@@ -26,7 +26,7 @@ pub fn instance(
 ) -> Result<bool, NoMemory>
     ensures { Finds (instance solution.old pattern.now target.now) solution.old solution.new result }
 {
-    // Not reached: a type that is elaborated is not so deep.
+    // Not reached: elaboration refuses types that are deeper.
     if target.depth() > DEEPEST {
         return Err(NoMemory);
     }
@@ -40,13 +40,15 @@ pub fn instance(
     }
 }
 
-/// The type with what is found put for its unknowns. One deeper than 4,096 is refused before it is matched.
+/// The type with what is found put for its unknowns.
 #[tactic(auto, using(crate::proofs::Solving::solving))]
 fn solve(alloc: Global, solution: &Solution, ty: &EType) -> Result<EType, NoMemory>
     ensures { IfOk result (λ t. t ≡ solved_in solution.now ty.now) }
 {
     match ty.solve(alloc, solution.as_slice()) {
         Ok(ty) => Ok(ty),
+        // Deeper than 4,096. The pattern is not so deep with what was found before it is matched; with what is found then it may be, in what
+        // erasure drops, and then its spine is too deep.
         Err(_) => Err(NoMemory),
     }
 }

@@ -4,13 +4,10 @@ ghost use Rattle.cdle_model.specs.Trees.{lacks};
 ghost use Rattle.cdle_model.specs.Erasure.{lowered};
 ghost use Rattle.elab_model.specs.Instances.{outside};
 
-use crate::mentions::type_mentions;
+use crate::variables::type_lacks;
 use cdle_model::NoMemory;
 use elab_tree::EType;
 use std::alloc::Global;
-
-/// A number that no unknown has: a solution has fewer.
-const NO_UNKNOWN: u32 = 4_294_967_295;
 
 /// The type without its innermost variables, so many, where it has none of them.
 pub(crate) fn outside(alloc: Global, binders: u32, ty: &EType) -> Result<Option<EType>, NoMemory>
@@ -28,25 +25,21 @@ pub(crate) fn outside(alloc: Global, binders: u32, ty: &EType) -> Result<Option<
     Ok(Some(outer))
 }
 
-/// The type without its innermost variable, where it does not have it. An unknown that is not in the type is put for the variable, and
-/// stands in it afterwards exactly where the variable did.
+/// The type without its innermost variable, where it does not have it.
+#[tactic(auto, using(crate::proofs::Lowered::lowered_by_put))]
 fn without_innermost(alloc: Global, ty: &EType) -> Result<Option<EType>, NoMemory>
     ensures { IfOk result (λ o. o ≡ cond (lacks 0 ty.now) (Some (lowered ty.now)) None) }
 {
-    // Not reached: `Solution::fresh` gives no such number.
-    if type_mentions(ty, NO_UNKNOWN) {
-        return Err(NoMemory);
+    // Asked for its bound alone.
+    let _depth = ty.depth();
+    if !type_lacks(ty, 0) {
+        return Ok(None);
     }
-    let mark = EType::unknown(alloc, NO_UNKNOWN)?;
-    match ty.put_type(alloc, 0, &mark) {
-        Ok(marked) => {
-            if type_mentions(&marked, NO_UNKNOWN) {
-                Ok(None)
-            } else {
-                Ok(Some(marked))
-            }
-        }
-        // A target that is deeper than 4,096 is not elaborated.
+    // What is put for a variable that is nowhere comes nowhere.
+    let anything = EType::unknown(alloc, 0)?;
+    match ty.put_type(alloc, 0, &anything) {
+        Ok(lower) => Ok(Some(lower)),
+        // Not reached: the target is not deeper than 4,096, and its part without a variable is as deep as it was.
         Err(_) => Err(NoMemory),
     }
 }

@@ -41,10 +41,7 @@ pub(crate) fn type_place<'a>(
             _ => None,
         },
         ETypeForm::On(head, arg) => match target.form() {
-            ETypeForm::On(other, by) => match head_place(head, other, number, binders) {
-                Some(part) => Some(part),
-                None => type_place(arg, by, number, binders),
-            },
+            ETypeForm::On(other, by) => applied_place(head, arg, other, by, number, binders),
             _ => None,
         },
         ETypeForm::Pi(domain, part) => match target.form() {
@@ -60,10 +57,7 @@ pub(crate) fn type_place<'a>(
             _ => None,
         },
         ETypeForm::Allt(domain, part) => match target.form() {
-            ETypeForm::Allt(from, to) => match kind_place(domain, from, number, binders) {
-                Some(part) => Some(part),
-                None => type_place(part, to, number, binders + 1),
-            },
+            ETypeForm::Allt(from, to) => kinded_place(domain, part, from, to, number, binders),
             _ => None,
         },
         ETypeForm::Tlam(_, part) => match target.form() {
@@ -90,6 +84,26 @@ fn head_place<'a>(head: &EType, target: &'a EType, number: u32, binders: u32) ->
     type_place(head, target, number, binders)
 }
 
+/// The same in the head of an application, and else in the type that it is applied to.
+#[cycle(place)]
+fn applied_place<'a>(
+    head: &EType,
+    arg: &EType,
+    other: &'a EType,
+    by: &'a EType,
+    number: u32,
+    binders: u32,
+) -> Option<Part<'a>>
+    requires head { binders + depth head.now ≤ 40000 }
+    requires arg { binders + depth arg.now ≤ 40000 }
+    ensures { IsPart (or_part (of_head head.now (first_place number binders head.now other.now)) (first_place number binders arg.now by.now)) result }
+{
+    match head_place(head, other, number, binders) {
+        Some(part) => Some(part),
+        None => type_place(arg, by, number, binders),
+    }
+}
+
 /// The same in a domain, and else in what stands under its binder.
 #[cycle(place)]
 fn bound_place<'a>(
@@ -105,6 +119,26 @@ fn bound_place<'a>(
     ensures { IsPart (or_part (first_place number binders domain.now from.now) (first_place number (suc binders) part.now to.now)) result }
 {
     match type_place(domain, from, number, binders) {
+        Some(part) => Some(part),
+        None => type_place(part, to, number, binders + 1),
+    }
+}
+
+/// The same where the domain is a kind.
+#[cycle(place)]
+fn kinded_place<'a>(
+    domain: &EKind,
+    part: &EType,
+    from: &'a EKind,
+    to: &'a EType,
+    number: u32,
+    binders: u32,
+) -> Option<Part<'a>>
+    requires domain { binders + depth domain.now ≤ 40000 }
+    requires part { binders + depth part.now < 40000 }
+    ensures { IsPart (or_part (first_place number binders domain.now from.now) (first_place number (suc binders) part.now to.now)) result }
+{
+    match kind_place(domain, from, number, binders) {
         Some(part) => Some(part),
         None => type_place(part, to, number, binders + 1),
     }

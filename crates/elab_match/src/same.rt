@@ -22,23 +22,23 @@ pub(crate) fn same_guides(left: &EGuide, right: &EGuide) -> bool
             _ => false,
         },
         EGuideForm::Pi(domain, part) => match right.form() {
-            EGuideForm::Pi(from, to) => same_guides(domain, from) && same_guides(part, to),
+            EGuideForm::Pi(from, to) => same_both(domain, part, from, to),
             _ => false,
         },
         EGuideForm::All(domain, part) => match right.form() {
-            EGuideForm::All(from, to) => same_guides(domain, from) && same_guides(part, to),
+            EGuideForm::All(from, to) => same_both(domain, part, from, to),
             _ => false,
         },
         EGuideForm::Iota(domain, part) => match right.form() {
-            EGuideForm::Iota(from, to) => same_guides(domain, from) && same_guides(part, to),
+            EGuideForm::Iota(from, to) => same_both(domain, part, from, to),
             _ => false,
         },
         EGuideForm::On(head, arg) => match right.form() {
-            EGuideForm::On(other, by) => same_guides(head, other) && same_guides(arg, by),
+            EGuideForm::On(other, by) => same_both(head, arg, other, by),
             _ => false,
         },
         EGuideForm::Allt(domain, part) => match right.form() {
-            EGuideForm::Allt(from, to) => same_guide_kinds(domain, from) && same_guides(part, to),
+            EGuideForm::Allt(from, to) => same_kinded(domain, part, from, to),
             _ => false,
         },
         EGuideForm::Tlam(part) => match right.form() {
@@ -50,14 +50,38 @@ pub(crate) fn same_guides(left: &EGuide, right: &EGuide) -> bool
             _ => false,
         },
         EGuideForm::At(head, arg) => match right.form() {
-            EGuideForm::At(other, by) => same_guides(head, other) && same_pures(arg, by),
+            EGuideForm::At(other, by) => same_applied(head, arg, other, by),
             _ => false,
         },
         EGuideForm::Eq(first, second) => match right.form() {
-            EGuideForm::Eq(from, to) => same_pures(first, from) && same_pures(second, to),
+            EGuideForm::Eq(from, to) => same_sides(first, second, from, to),
             _ => false,
         },
     }
+}
+
+/// Whether each of two guides is equal to its other.
+#[cycle(same)]
+fn same_both(first: &EGuide, second: &EGuide, from: &EGuide, to: &EGuide) -> bool
+    ensures { IsTrue result ↔ (first.now ≡ from.now) × (second.now ≡ to.now) }
+{
+    same_guides(first, from) && same_guides(second, to)
+}
+
+/// The same where the first of each pair is a guide kind.
+#[cycle(same)]
+fn same_kinded(domain: &EGuideKind, part: &EGuide, from: &EGuideKind, to: &EGuide) -> bool
+    ensures { IsTrue result ↔ (domain.now ≡ from.now) × (part.now ≡ to.now) }
+{
+    same_guide_kinds(domain, from) && same_guides(part, to)
+}
+
+/// The same where the second of each pair is a pure term.
+#[cycle(same)]
+fn same_applied(head: &EGuide, arg: &EPure, other: &EGuide, by: &EPure) -> bool
+    ensures { IsTrue result ↔ (head.now ≡ other.now) × (arg.now ≡ by.now) }
+{
+    same_guides(head, other) && same_pures(arg, by)
 }
 
 /// Whether the guide kinds are equal.
@@ -83,6 +107,13 @@ fn same_guide_kinds(left: &EGuideKind, right: &EGuideKind) -> bool
             _ => false,
         },
     }
+}
+
+/// Whether each side of an equation is equal to that of another.
+fn same_sides(first: &EPure, second: &EPure, from: &EPure, to: &EPure) -> bool
+    ensures { IsTrue result ↔ (first.now ≡ from.now) × (second.now ≡ to.now) }
+{
+    same_pures(first, from) && same_pures(second, to)
 }
 
 /// Whether the pure terms are equal.

@@ -111,7 +111,7 @@ fn kinds(page: &mut Page, alloc: Global) -> Made<()> {
     search(page, alloc, pattern, target)
 }
 
-/// An unknown of the target, one of a number that no unknown has, and the deepest target.
+/// Unknowns of the target, and the deepest target.
 fn limits(page: &mut Page, alloc: Global) -> Made<()> {
     let pattern = pi(alloc, name(alloc, 0), hole(alloc, 0));
     let target = pi(alloc, name(alloc, 0), hole(alloc, 3));

@@ -1,5 +1,5 @@
 use Rattle.std.proofs.Common.{◌-◌, sym, ◌∙◌, arith}
-use Rattle.elab_match.proofs.Marks.{outside-next}
+use Rattle.elab_match.proofs.Lowered.{outside-next}
 use Rattle.elab_match.proofs.outside.outside.Goals as goal
 
 pub binders-preserved : goal.binders-preserved
