@@ -1,14 +1,13 @@
 -- The pairs in place of two head forms.
-use Rattle.std.proofs.Common.{◌≡◌, ◌⊎◌, inl, inr, ℕ, zero, suc, ◌+◌, ◌<◌, ◌≤◌, Bool, true, false, List, [], ◌∷◌, ◌++◌, length, drop, get_or, Result, Ok, Err, IfOk, Some, None, refl, sym, ap, ◌∙◌, subst, arith, append_assoc}
+use Rattle.std.proofs.Common.{◌≡◌, ◌⊎◌, inl, inr, suc, ◌<◌, Bool, true, false, List, [], ◌∷◌, ◌++◌, length, drop, get_or, Result, Ok, Err, IfOk, None, refl, sym, ap, ◌∙◌, subst, arith, append_assoc}
 use Rattle.cdle_model.specs.Trees.{Function, of_pure, of_term, of_type, Leaf, star_of, unknown, pi_of, all_of, allt_of, iota_of, kpi_of, kpit_of, Tree, var, name, leaf, unary, fun, apply, binary, bind, shift}
 use Rattle.cdle_model.specs.Forms.{fn}
-use Rattle.cdle_model.specs.Comparison.{Head, variable, constant, argument, function, leaf_head, unary_head, former, binary_head, stuck, applied_head, head_of, parts_by, parts_of, pairs_of, Pair, function_of, applied, Split, into, differ, same_heads, against, split}
+use Rattle.cdle_model.specs.Comparison.{Head, variable, constant, argument, function, leaf_head, former, binary_head, stuck, applied_head, head_of, parts_by, parts_of, pairs_of, Pair, function_of, applied, into, differ, same_heads, against, split}
 use Rattle.cdle_model.proofs.HeadParts.{same_heads-cases}
 use Rattle.elab_convert.specs.declared.side.Arg.{Arg}
 use Rattle.elab_convert.specs.declared.side.Arg.TheVariants.{OfPure, OfTerm, OfType}
 use Rattle.elab_convert.specs.declared.side.ArgClass.{ArgClass}
 use Rattle.elab_convert.specs.declared.side.ArgClass.TheVariants as c
-use Rattle.elab_convert.specs.declared.side.Side.{Side}
 use Rattle.elab_convert.specs.declared.side.SidePair.{SidePair}
 use Rattle.elab_convert.specs.declared.side.Root.{Root}
 use Rattle.elab_convert.specs.declared.side.Root.TheVariants.{Variable, Constant}
@@ -16,7 +15,7 @@ use Rattle.elab_convert.specs.declared.former.Word.{Word}
 use Rattle.elab_convert.specs.declared.former.Word.TheVariants as w
 use Rattle.elab_convert.specs.declared.former.Former.{Former}
 use Rattle.elab_convert.specs.Formers.{IsFormer, IsFormerOf, part_trees, word_head}
-use Rattle.elab_convert.specs.Sides.{arg_class, arg_function, arg_raised, arg_tree, class_function, spine, root_tree, pair_trees, stack}
+use Rattle.elab_convert.specs.Sides.{arg_class, arg_function, arg_tree, class_function, spine, root_tree, pair_trees, stack}
 use Rattle.elab_convert.specs.Answers.{ArePartsPut, ArePut, IsSettled, classes, raised_all, zipped}
 
 pub if_ok : {A E : Type 0} (P Q : A → Type 0) (r : Result A E) → ((x : A) → P x → Q x) → IfOk r P → IfOk r Q

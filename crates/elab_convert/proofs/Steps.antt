@@ -19,7 +19,7 @@ use Rattle.elab_convert.specs.declared.side.Arg.TheVariants as a
 use Rattle.elab_convert.specs.declared.side.Erased.{Erased}
 use Rattle.elab_convert.specs.declared.head.HeadMove.TheVariants as m
 use Rattle.elab_convert.specs.declared.side.Root.TheVariants as r
-use Rattle.elab_convert.specs.declared.stop.ConvertStop.TheVariants.{Spent, TooDeep}
+use Rattle.elab_convert.specs.declared.stop.ConvertStop.TheVariants.{Spent}
 use Rattle.elab_convert.specs.Bodies.{body_of, body_tree, bodies_of}
 use Rattle.elab_convert.specs.Formers.{IsFormer}
 use Rattle.elab_convert.specs.Sides.{arg_function, arg_tree, erased_tree, spine}

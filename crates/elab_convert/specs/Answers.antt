@@ -1,6 +1,6 @@
 -- What the answers of the comparison say, by its definition.
 use Rattle.std.specs.Prelude.{◌≡◌, ℕ, ◌<◌, ◌≤◌, Bool, true, false, List, [], ◌∷◌, ◌++◌, Result, Ok, Err}
-use Rattle.cdle_model.specs.Trees.{Tree, shift}
+use Rattle.cdle_model.specs.Trees.{Tree}
 use Rattle.cdle_model.specs.Machine.{Budgeted, run, answered, spent}
 use Rattle.cdle_model.specs.HeadForms.{deep}
 use Rattle.cdle_model.specs.Comparison.{Answer, Pair, into, differ, split, same, apart, halted, pairs, pairs_of, State, move}

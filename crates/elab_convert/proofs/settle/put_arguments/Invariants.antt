@@ -1,4 +1,4 @@
-use Rattle.std.proofs.Common.{◌≡◌, ◌≤◌, ◌-◌, length, drop, []}
+use Rattle.std.proofs.Common.{◌≤◌, ◌-◌, length, drop, []}
 use Rattle.elab_convert.specs.Sides.{stack}
 use Rattle.elab_convert.proofs.Putting.{AreLeft}
 use Rattle.elab_convert.proofs.settle.put_arguments.Given as goal
