@@ -25,9 +25,24 @@ fn eta(rows: &mut Rows) {
 /// `fn x. fn y. y y` is not: the variables at the heads of the third pair are two.
 fn eta_not(rows: &mut Rows) {
     let alloc = rows.alloc;
-    rows.terms("eta_not_left", 3, one_argument(alloc, 0, 0), identity(alloc));
-    rows.terms("eta_not_left", 2, one_argument(alloc, 0, 0), identity(alloc));
-    rows.terms("eta_not_right", 3, identity(alloc), one_argument(alloc, 0, 0));
+    rows.terms(
+        "eta_not_left",
+        3,
+        one_argument(alloc, 0, 0),
+        identity(alloc),
+    );
+    rows.terms(
+        "eta_not_left",
+        2,
+        one_argument(alloc, 0, 0),
+        identity(alloc),
+    );
+    rows.terms(
+        "eta_not_right",
+        3,
+        identity(alloc),
+        one_argument(alloc, 0, 0),
+    );
 }
 
 /// An argument stands under the new variable: `g a` is `fn y. g a y`, with free a and g.
@@ -45,11 +60,36 @@ fn eta_raised(rows: &mut Rows) {
 /// The arguments are taken from the innermost on: those of `x y x` and `x y y` differ in the fifth pair, of `x x y` and `x y y` in the fourth.
 fn in_order(rows: &mut Rows) {
     let alloc = rows.alloc;
-    rows.terms("second", 5, two_arguments(alloc, 0, 1), two_arguments(alloc, 0, 0));
-    rows.terms("second", 4, two_arguments(alloc, 0, 1), two_arguments(alloc, 0, 0));
-    rows.terms("first", 4, two_arguments(alloc, 1, 0), two_arguments(alloc, 0, 0));
-    rows.terms("first", 3, two_arguments(alloc, 1, 0), two_arguments(alloc, 0, 0));
-    rows.terms("more", 3, two_arguments(alloc, 0, 0), one_argument(alloc, 1, 0));
+    rows.terms(
+        "second",
+        5,
+        two_arguments(alloc, 0, 1),
+        two_arguments(alloc, 0, 0),
+    );
+    rows.terms(
+        "second",
+        4,
+        two_arguments(alloc, 0, 1),
+        two_arguments(alloc, 0, 0),
+    );
+    rows.terms(
+        "first",
+        4,
+        two_arguments(alloc, 1, 0),
+        two_arguments(alloc, 0, 0),
+    );
+    rows.terms(
+        "first",
+        3,
+        two_arguments(alloc, 1, 0),
+        two_arguments(alloc, 0, 0),
+    );
+    rows.terms(
+        "more",
+        3,
+        two_arguments(alloc, 0, 0),
+        one_argument(alloc, 1, 0),
+    );
 }
 
 /// One name with itself is one pair. Two names, and one that is applied, are unfolded on both sides; a name that no item has is not.

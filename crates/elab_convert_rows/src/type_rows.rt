@@ -31,15 +31,45 @@ fn formers(rows: &mut Rows) {
     rows.types("pi", 2, pi(alloc), pi(alloc));
     rows.types("pi_and_all", 1, pi(alloc), all(alloc));
     rows.types("pi_and_all", 0, pi(alloc), all(alloc));
-    rows.types("all_and_iota", 1, all(alloc), iota(alloc, var(alloc, 0), var(alloc, 1)));
+    rows.types(
+        "all_and_iota",
+        1,
+        all(alloc),
+        iota(alloc, var(alloc, 0), var(alloc, 1)),
+    );
     let left = allt(alloc, star(alloc), var(alloc, 0));
     let right = allt(alloc, star(alloc), var(alloc, 0));
     rows.types("allt", 3, left, right);
-    rows.types("functions", 2, tlam(alloc, var(alloc, 1)), tlam(alloc, var(alloc, 1)));
-    rows.types("functions", 1, tlam(alloc, var(alloc, 1)), tlam(alloc, var(alloc, 1)));
-    rows.types("two_functions", 1, tlam(alloc, var(alloc, 1)), xtlam(alloc, var(alloc, 1)));
-    rows.types("unknown", 1, EGuide::unknown(alloc, 3), EGuide::unknown(alloc, 3));
-    rows.types("two_unknowns", 1, EGuide::unknown(alloc, 3), EGuide::unknown(alloc, 4));
+    rows.types(
+        "functions",
+        2,
+        tlam(alloc, var(alloc, 1)),
+        tlam(alloc, var(alloc, 1)),
+    );
+    rows.types(
+        "functions",
+        1,
+        tlam(alloc, var(alloc, 1)),
+        tlam(alloc, var(alloc, 1)),
+    );
+    rows.types(
+        "two_functions",
+        1,
+        tlam(alloc, var(alloc, 1)),
+        xtlam(alloc, var(alloc, 1)),
+    );
+    rows.types(
+        "unknown",
+        1,
+        EGuide::unknown(alloc, 3),
+        EGuide::unknown(alloc, 3),
+    );
+    rows.types(
+        "two_unknowns",
+        1,
+        EGuide::unknown(alloc, 3),
+        EGuide::unknown(alloc, 4),
+    );
     rows.types("former_and_variable", 1, pi(alloc), var(alloc, 0));
 }
 
@@ -47,11 +77,26 @@ fn formers(rows: &mut Rows) {
 fn parts_in_order(rows: &mut Rows) {
     let alloc = rows.alloc;
     let left = iota(alloc, var(alloc, 5), var(alloc, 1));
-    rows.types("first_part", 2, left, iota(alloc, var(alloc, 0), var(alloc, 1)));
+    rows.types(
+        "first_part",
+        2,
+        left,
+        iota(alloc, var(alloc, 0), var(alloc, 1)),
+    );
     let left = iota(alloc, var(alloc, 0), var(alloc, 5));
-    rows.types("second_part", 3, left, iota(alloc, var(alloc, 0), var(alloc, 1)));
+    rows.types(
+        "second_part",
+        3,
+        left,
+        iota(alloc, var(alloc, 0), var(alloc, 1)),
+    );
     let left = iota(alloc, var(alloc, 0), var(alloc, 5));
-    rows.types("second_part", 2, left, iota(alloc, var(alloc, 0), var(alloc, 1)));
+    rows.types(
+        "second_part",
+        2,
+        left,
+        iota(alloc, var(alloc, 0), var(alloc, 1)),
+    );
 }
 
 /// A function of types contracts with an argument of its own class, and one of the other class is an application that is stuck: one
@@ -84,21 +129,44 @@ fn stuck(rows: &mut Rows) {
     let left = on(alloc, pi(alloc), var(alloc, 2));
     let right = at(alloc, pi(alloc), term_var(alloc, 2));
     rows.types("stuck_on_another", 1, left, right);
-    rows.types("stuck_and_former", 1, on(alloc, pi(alloc), var(alloc, 2)), pi(alloc));
+    rows.types(
+        "stuck_and_former",
+        1,
+        on(alloc, pi(alloc), var(alloc, 2)),
+        pi(alloc),
+    );
 }
 
 /// A type variable with arguments of two classes, and a type's name.
 fn variables(rows: &mut Rows) {
     let alloc = rows.alloc;
-    let left = on(alloc, at(alloc, var(alloc, 5), term_var(alloc, 1)), var(alloc, 2));
-    let right = on(alloc, at(alloc, var(alloc, 5), term_var(alloc, 1)), var(alloc, 2));
+    let left = on(
+        alloc,
+        at(alloc, var(alloc, 5), term_var(alloc, 1)),
+        var(alloc, 2),
+    );
+    let right = on(
+        alloc,
+        at(alloc, var(alloc, 5), term_var(alloc, 1)),
+        var(alloc, 2),
+    );
     rows.types("arguments", 3, left, right);
     let left = at(alloc, var(alloc, 5), term_var(alloc, 0));
     let right = on(alloc, var(alloc, 5), var(alloc, 0));
     rows.types("arguments_of_two_classes", 1, left, right);
     rows.types("type_name", 1, name(alloc, 2), name(alloc, 2));
-    rows.types("type_name_on", 3, on(alloc, name(alloc, 2), var(alloc, 4)), var(alloc, 4));
-    rows.types("type_name_on", 2, on(alloc, name(alloc, 2), var(alloc, 4)), var(alloc, 4));
+    rows.types(
+        "type_name_on",
+        3,
+        on(alloc, name(alloc, 2), var(alloc, 4)),
+        var(alloc, 4),
+    );
+    rows.types(
+        "type_name_on",
+        2,
+        on(alloc, name(alloc, 2), var(alloc, 4)),
+        var(alloc, 4),
+    );
 }
 
 fn kinds(rows: &mut Rows) {

@@ -55,7 +55,11 @@ pub(crate) fn star(alloc: Global) -> Made<EGuideKind> {
 
 /// The kind of predicates on the type of that variable.
 pub(crate) fn kpi(alloc: Global, index: u32) -> Made<EGuideKind> {
-    EGuideKind::kpi(alloc, &EGuide::var(alloc, index)?, &EGuideKind::star(alloc)?)
+    EGuideKind::kpi(
+        alloc,
+        &EGuide::var(alloc, index)?,
+        &EGuideKind::star(alloc)?,
+    )
 }
 
 /// The kind of functions from types to types.
