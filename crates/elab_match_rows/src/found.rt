@@ -2,8 +2,8 @@
 use crate::Made;
 use crate::page::Page;
 use crate::trees::{hole, name, pi, unsolved};
-use elab_match::{Solution, instance};
-use elab_tree::TreeStop;
+use elab_match::Solution;
+use elab_tree::{EType, TreeStop};
 use std::alloc::Global;
 
 fn told(page: &mut Page, solution: &Solution) {
@@ -15,38 +15,46 @@ fn told(page: &mut Page, solution: &Solution) {
     }
 }
 
-/// The numbers of fresh unknowns, and that the first is found last.
-fn filled(page: &mut Page, alloc: Global) -> Made<()> {
-    let mut solution = Solution::new(alloc);
-    told(page, &solution);
+/// The numbers of two fresh unknowns.
+fn fresh(page: &mut Page, solution: &mut Solution) -> Made<()> {
     page.number("fresh ", solution.fresh()?);
     page.number(", fresh ", solution.fresh()?);
     page.word("\n");
-    instance(alloc, &hole(alloc, 1)?, &name(alloc, 7)?, &mut solution)?;
+    Ok(())
+}
+
+/// Two unknowns, of which the first is found last.
+fn filled(page: &mut Page, alloc: Global) -> Made<()> {
+    let mut solution = Solution::new(alloc);
     told(page, &solution);
-    instance(alloc, &hole(alloc, 0)?, &name(alloc, 8)?, &mut solution)?;
+    fresh(page, &mut solution)?;
+    page.search(alloc, hole(alloc, 1), name(alloc, 7), &mut solution);
+    told(page, &solution);
+    page.search(alloc, hole(alloc, 0), name(alloc, 8), &mut solution);
     told(page, &solution);
     Ok(())
 }
 
-/// A type in which what is found is put, matched against itself as it should be.
-fn put(page: &mut Page, alloc: Global) -> Result<(), TreeStop> {
-    let mut solution = unsolved(alloc, 2)?;
-    instance(alloc, &hole(alloc, 1)?, &name(alloc, 7)?, &mut solution)?;
+/// The product of two unknowns, with what is found put for them.
+fn put(alloc: Global, solution: &Solution) -> Result<EType, TreeStop> {
     let open = pi(alloc, hole(alloc, 0), hole(alloc, 1))?;
-    let put = open.solve(alloc, solution.as_slice())?;
-    page.search(
-        alloc,
-        Ok(put),
-        pi(alloc, name(alloc, 6), name(alloc, 7)),
-        &mut solution,
-    );
+    open.solve(alloc, solution.as_slice())
+}
+
+/// A pattern in which what is found is put.
+fn solved(page: &mut Page, alloc: Global) -> Made<()> {
+    let mut solution = unsolved(alloc, 2)?;
+    page.search(alloc, hole(alloc, 1), name(alloc, 7), &mut solution);
+    if let Ok(pattern) = put(alloc, &solution) {
+        let target = pi(alloc, name(alloc, 6), name(alloc, 7));
+        page.search(alloc, Ok(pattern), target, &mut solution);
+    }
     Ok(())
 }
 
 /// The lines of this file.
 pub(crate) fn lines(page: &mut Page, alloc: Global) {
-    if filled(page, alloc).is_err() || put(page, alloc).is_err() {
+    if filled(page, alloc).is_err() || solved(page, alloc).is_err() {
         page.word("no memory\n");
     }
 }
