@@ -1,5 +1,6 @@
 //! Whether two erased trees are equal.
 ghost use Rattle.std.specs.Prelude.{◌≡◌, ◌↔◌, IsTrue};
+ghost use Rattle.cdle_model.specs.Forms.{allt, at_, eq};
 
 use elab_tree::{EGuide, EGuideForm, EGuideKind, EGuideKindForm, EPure, EPureForm};
 
@@ -37,10 +38,7 @@ pub(crate) fn same_guides(left: &EGuide, right: &EGuide) -> bool
             EGuideForm::On(other, by) => same_both(head, arg, other, by),
             _ => false,
         },
-        EGuideForm::Allt(domain, part) => match right.form() {
-            EGuideForm::Allt(from, to) => same_kinded(domain, part, from, to),
-            _ => false,
-        },
+        EGuideForm::Allt(domain, part) => same_kinded(domain, part, right),
         EGuideForm::Tlam(part) => match right.form() {
             EGuideForm::Tlam(other) => same_guides(part, other),
             _ => false,
@@ -49,14 +47,8 @@ pub(crate) fn same_guides(left: &EGuide, right: &EGuide) -> bool
             EGuideForm::Xtlam(other) => same_guides(part, other),
             _ => false,
         },
-        EGuideForm::At(head, arg) => match right.form() {
-            EGuideForm::At(other, by) => same_applied(head, arg, other, by),
-            _ => false,
-        },
-        EGuideForm::Eq(first, second) => match right.form() {
-            EGuideForm::Eq(from, to) => same_sides(first, second, from, to),
-            _ => false,
-        },
+        EGuideForm::At(head, arg) => same_applied(head, arg, right),
+        EGuideForm::Eq(first, second) => same_sides(first, second, right),
     }
 }
 
@@ -68,20 +60,26 @@ fn same_both(first: &EGuide, second: &EGuide, from: &EGuide, to: &EGuide) -> boo
     same_guides(first, from) && same_guides(second, to)
 }
 
-/// The same where the first of each pair is a guide kind.
+/// Whether the guide is the product of these two over types.
 #[cycle(same)]
-fn same_kinded(domain: &EGuideKind, part: &EGuide, from: &EGuideKind, to: &EGuide) -> bool
-    ensures { IsTrue result ↔ (domain.now ≡ from.now) × (part.now ≡ to.now) }
+fn same_kinded(domain: &EGuideKind, part: &EGuide, right: &EGuide) -> bool
+    ensures { IsTrue result ↔ allt domain.now part.now ≡ right.now }
 {
-    same_guide_kinds(domain, from) && same_guides(part, to)
+    match right.form() {
+        EGuideForm::Allt(from, to) => same_guide_kinds(domain, from) && same_guides(part, to),
+        _ => false,
+    }
 }
 
-/// The same where the second of each pair is a pure term.
+/// Whether the guide is the first of these two applied to the second.
 #[cycle(same)]
-fn same_applied(head: &EGuide, arg: &EPure, other: &EGuide, by: &EPure) -> bool
-    ensures { IsTrue result ↔ (head.now ≡ other.now) × (arg.now ≡ by.now) }
+fn same_applied(head: &EGuide, arg: &EPure, right: &EGuide) -> bool
+    ensures { IsTrue result ↔ at_ head.now arg.now ≡ right.now }
 {
-    same_guides(head, other) && same_pures(arg, by)
+    match right.form() {
+        EGuideForm::At(other, by) => same_guides(head, other) && same_pures(arg, by),
+        _ => false,
+    }
 }
 
 /// Whether the guide kinds are equal.
@@ -109,11 +107,14 @@ fn same_guide_kinds(left: &EGuideKind, right: &EGuideKind) -> bool
     }
 }
 
-/// Whether each side of an equation is equal to that of another.
-fn same_sides(first: &EPure, second: &EPure, from: &EPure, to: &EPure) -> bool
-    ensures { IsTrue result ↔ (first.now ≡ from.now) × (second.now ≡ to.now) }
+/// Whether the guide is the equation of these two.
+fn same_sides(first: &EPure, second: &EPure, right: &EGuide) -> bool
+    ensures { IsTrue result ↔ eq first.now second.now ≡ right.now }
 {
-    same_pures(first, from) && same_pures(second, to)
+    match right.form() {
+        EGuideForm::Eq(from, to) => same_pures(first, from) && same_pures(second, to),
+        _ => false,
+    }
 }
 
 /// Whether the pure terms are equal.
