@@ -7,7 +7,7 @@ ghost use Rattle.elab_model.specs.declared.codes.Code.TheVariants.{AnnotationWan
 ghost use Rattle.std.specs.Prelude.{◌≡◌, [], codes};
 
 /// Definitions that are given, one of them with a type argument left out; each refusal but that of branches, with its place; and comparisons that are
-/// spent: one at any number of units, one with a unit fewer than it takes.
+/// spent: one of a side that has no head form, and one with a unit fewer than it takes.
 pub fn examples_are_answered()
     ensures of_identity { found_for [] 200000 identity ≡ found (def_item (codes "m.id") (allt star (pi (var 0) (var 1))) (xlam star (lam (var 0) (var 0)))) }
     ensures of_left_out_argument { found_for before_left_out_argument 200000 left_out_argument ≡ found (def_item (codes "m.two") (allt star (pi (var 0) (var 1))) (xlam star (lam (var 0) (app (tapp (name 0) (var 1)) (var 0))))) }
