@@ -1,0 +1,9 @@
+use Rattle.scope_model.specs.ScopeFits.{known_sorts}
+use Rattle.scope_model.proofs.ScopedItems.{module_fits}
+use Rattle.build_model.proofs.FormsFit.{items_fit}
+use Rattle.build_model.proofs.SaidForms.{said_forms}
+use Rattle.build_model.proofs.ScopedForms.{module_kept}
+use Rattle.build_model.proofs.laws.said_module_fits.Goals as goal
+
+pub returns : goal.returns
+returns c = λ g ts m known r s n e u. items_fit (known_sorts known) r.items (module_kept known m r e (said_forms g ts m s)) (module_fits known m r n e) u

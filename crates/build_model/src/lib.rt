@@ -1,0 +1,6 @@
+//! Building a module: the definitions of the command `build`, and their laws.
+#![tactic(auto)]
+
+mod laws;
+
+pub use laws::{said_module_fits, scoped_names_differ, scoped_sorts_follow};
