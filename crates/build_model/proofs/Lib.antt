@@ -5,3 +5,4 @@ pub mod MadeForms
 pub mod FormedRows
 pub mod SaidForms
 pub mod ScopedForms
+pub mod Items

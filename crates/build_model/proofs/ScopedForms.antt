@@ -3,9 +3,9 @@ use Rattle.std.proofs.Common.{◌≡◌, Bool, true, false, if◌then◌else◌,
 use Rattle.cdle_model.specs.declared.grammar.Sort.{Sort}
 use Rattle.cdle_model.specs.declared.grammar.Sort.TheVariants.{OfTerm, OfType}
 use Rattle.cdle_model.specs.Classes.{TreeClass, terms, types, kinds}
-use Rattle.source_model.specs.Source.{use_of, leaf, one, two, bind, cases, branch, SourceLeaf, star_of, none_of, SourceBinder, elam_of, xlam_of, unclassed_of, def_item, type_item, data_item, Tree, Item, Module}
+use Rattle.source_model.specs.Source.{Span, use_of, leaf, one, two, bind, cases, branch, SourceLeaf, star_of, none_of, SourceBinder, elam_of, xlam_of, unclassed_of, def_item, type_item, data_item, NameUse, Tree, Item, Module}
 use Rattle.source_model.specs.Heights.{is_none}
-use Rattle.scope_model.specs.Scoped.{Scoped, ScopedItem, ScopedModule}
+use Rattle.scope_model.specs.Scoped.{Reference, Scoped, ScopedItem, ScopedModule}
 use Rattle.scope_model.specs.ScopeNames.{Text, Variable, Bound, Exported, Around, stands}
 use Rattle.scope_model.specs.Scope.{ScopeFault, ◌>>=◌, left_sort, right_sort, domain_sort, body_sort, binder_sort, of_case, with_patterns, with_parameters, classed, with_class, wanted_as, bare, scoped, generated, item_names, texts, parameters, constructors, written, scoped_item, scoped_items, scoped_module, around}
 use Rattle.scope_model.proofs.Results.{and_then, not_taken}
@@ -24,10 +24,6 @@ at_place (may c) a b P Q e f (inl n) = inl (sym e ∙ n)
 at_place (may c) a b P Q e f (inr p) = inr (f c p)
 at_place empty a b P Q e f h = sym e ∙ h
 
-at_places : (l : Places) (a b c d : Bool) (P Q R S : TreeClass → Type 0) → a ≡ b → ((k : TreeClass) → P k → Q k) → c ≡ d → ((k : TreeClass) → R k → S k) → AtPlaces l a P c R → AtPlaces l b Q d S
-at_places nowhere a b c d P Q R S e f i g h = h
-at_places (both x y) a b c d P Q R S e f i g h = (at_place x a b P Q e f h.0, at_place y c d R S i g h.1)
-
 -- a `Λ` whose class is found has none written
 by_use : (c : TreeClass) (o : Option Sort) (a b : Bool) (P Q : TreeClass → Type 0) → AtPlaces (bind_places c unclassed_of) a P b Q → AtPlaces (bind_places c (classed o)) a P b Q
 by_use c None a b P Q h = h
@@ -42,68 +38,54 @@ by_class c f x u a b P Q h = h
 
 -- ---- parts
 
-none_kept : (a : Around) (ob bs : List Bound) (s : Sort) (t : Tree Text) (v : Scoped) → scoped a ob bs s t ≡ Ok v → is_none t ≡ is_none v
-unfolding scoped
-none_kept a ob bs s (use_of p u) v e =
-    let r = and_then (wanted_as p s (stands a bs u)) (λ r. Ok (use_of p r)) v e in
-    let same : use_of p r.0 ≡ v = cc in ap (λ (w : Scoped). is_none w) same
-none_kept a ob bs s (leaf p star_of) v e = let same : leaf p star_of ≡ v = cc in ap (λ (w : Scoped). is_none w) same
-none_kept a ob bs s (leaf p none_of) v e = let same : leaf p none_of ≡ v = cc in ap (λ (w : Scoped). is_none w) same
-none_kept a ob bs s (one p j t) v e =
-    let r = and_then (scoped a [] bs OfTerm t) (λ w. Ok (one p j w)) v e in
-    let same : one p j r.0 ≡ v = cc in ap (λ (w : Scoped). is_none w) same
-none_kept a ob bs s (two p j t u) v e =
-    let r = and_then (scoped a [] bs (left_sort j) t) (λ w. scoped a [] bs (right_sort j) u >>= λ z. Ok (two p j w z)) v e in
-    let q = and_then (scoped a [] bs (right_sort j) u) (λ z. Ok (two p j r.0 z)) v r.2 in
-    let same : two p j r.0 q.0 ≡ v = cc in ap (λ (w : Scoped). is_none w) same
-none_kept a ob bs s (bind p f x t u) v e =
-    let g = with_class f x u in
-    let b : Bound = record { name = x; binding = Variable (binder_sort g) } in
-    let r = and_then (scoped a [] bs (domain_sort f) t) (λ w. scoped a [] (b ∷ bs) (body_sort f) u >>= λ z. Ok (bind p g tt w z)) v e in
-    let q = and_then (scoped a [] (b ∷ bs) (body_sort f) u) (λ z. Ok (bind p g tt r.0 z)) v r.2 in
-    let same : bind p g tt r.0 q.0 ≡ v = cc in ap (λ (w : Scoped). is_none w) same
-none_kept a ob bs s (cases p f x t m us) v e =
-    let r = and_then (scoped a [] bs OfTerm t) (λ w. scoped a [] bs OfType m >>= λ n. scoped a (of_case f x) bs OfTerm us >>= λ ws. Ok (cases p f tt w n ws)) v e in
-    let q = and_then (scoped a [] bs OfType m) (λ n. scoped a (of_case f x) bs OfTerm us >>= λ ws. Ok (cases p f tt r.0 n ws)) v r.2 in
-    let k = and_then (scoped a (of_case f x) bs OfTerm us) (λ ws. Ok (cases p f tt r.0 q.0 ws)) v q.2 in
-    let same : cases p f tt r.0 q.0 k.0 ≡ v = cc in ap (λ (w : Scoped). is_none w) same
-none_kept a ob bs s (branch p c ps t us) v e =
-    let n = and_then (wanted_as p OfTerm (stands a bs c)) (λ r. scoped a [] (with_patterns ps (ob ++ bs)) OfTerm t >>= λ w. scoped a ob bs OfTerm us >>= λ ws. Ok (branch p r (bare ps) w ws)) v e in
-    let r = and_then (scoped a [] (with_patterns ps (ob ++ bs)) OfTerm t) (λ w. scoped a ob bs OfTerm us >>= λ ws. Ok (branch p n.0 (bare ps) w ws)) v n.2 in
-    let k = and_then (scoped a ob bs OfTerm us) (λ ws. Ok (branch p n.0 (bare ps) r.0 ws)) v r.2 in
-    let same : branch p n.0 (bare ps) r.0 k.0 ≡ v = cc in ap (λ (w : Scoped). is_none w) same
+abbrev IsKept : Tree Text → Scoped → Type 0
+IsKept t v = (is_none t ≡ is_none v) × ((c : TreeClass) → HasForm c t → HasForm c v)
 
-form_kept : (a : Around) (ob bs : List Bound) (s : Sort) (t : Tree Text) (v : Scoped) → scoped a ob bs s t ≡ Ok v → (c : TreeClass) → HasForm c t → HasForm c v
+both_kept : (l : Places) (t : Tree Text) (v : Scoped) (u : Tree Text) (w : Scoped) → IsKept t v → IsKept u w
+    → AtPlaces l (is_none t) (λ d. HasForm d t) (is_none u) (λ d. HasForm d u) → AtPlaces l (is_none v) (λ d. HasForm d v) (is_none w) (λ d. HasForm d w)
+both_kept nowhere t v u w k i h = h
+both_kept (both x y) t v u w k i h = (at_place x (is_none t) (is_none v) (λ d. HasForm d t) (λ d. HasForm d v) k.0 k.1 h.0, at_place y (is_none u) (is_none w) (λ d. HasForm d u) (λ d. HasForm d w) i.0 i.1 h.1)
+
+leaf_kept : (p : Span) (l : SourceLeaf) → is_none {B = Option Text} {N = NameUse Text} (leaf p l) ≡ is_none {B = Unit {0}} {N = Reference} (leaf p l)
+leaf_kept p star_of = refl
+leaf_kept p none_of = refl
+
+form_kept : (a : Around) (ob bs : List Bound) (s : Sort) (t : Tree Text) (v : Scoped) → scoped a ob bs s t ≡ Ok v → IsKept t v
 unfolding scoped
-form_kept a ob bs s (use_of p u) v e c h =
+form_kept a ob bs s (use_of p u) v e =
     let r = and_then (wanted_as p s (stands a bs u)) (λ r. Ok (use_of p r)) v e in
-    let same : use_of p r.0 ≡ v = cc in subst (λ (w : Scoped). HasForm c w) same h
-form_kept a ob bs s (leaf p l) v e c h = let same : leaf p l ≡ v = cc in subst (λ (w : Scoped). HasForm c w) same h
-form_kept a ob bs s (one p j t) v e c h =
+    let same : use_of p r.0 ≡ v = cc in subst (IsKept (use_of p u)) same (refl, λ c h. h)
+form_kept a ob bs s (leaf p l) v e = let same : leaf p l ≡ v = cc in subst (IsKept (leaf p l)) same (leaf_kept p l, λ c h. h)
+form_kept a ob bs s (one p j t) v e =
     let r = and_then (scoped a [] bs OfTerm t) (λ w. Ok (one p j w)) v e in
     let same : one p j r.0 ≡ v = cc in
-    subst (λ (w : Scoped). HasForm c w) same (if_term c (HasForm terms t) (HasForm terms r.0) (form_kept a [] bs OfTerm t r.0 r.1 terms) h)
-form_kept a ob bs s (two p j t u) v e c h =
+    subst (IsKept (one p j t)) same (refl, λ c h. if_term c (HasForm terms t) (HasForm terms r.0) ((form_kept a [] bs OfTerm t r.0 r.1).1 terms) h)
+form_kept a ob bs s (two p j t u) v e =
     let r = and_then (scoped a [] bs (left_sort j) t) (λ w. scoped a [] bs (right_sort j) u >>= λ z. Ok (two p j w z)) v e in
     let q = and_then (scoped a [] bs (right_sort j) u) (λ z. Ok (two p j r.0 z)) v r.2 in
     let same : two p j r.0 q.0 ≡ v = cc in
-    subst (λ (w : Scoped). HasForm c w) same
-    (at_places (two_places c j) (is_none t) (is_none r.0) (is_none u) (is_none q.0) (λ d. HasForm d t) (λ d. HasForm d r.0) (λ d. HasForm d u) (λ d. HasForm d q.0) (none_kept a [] bs (left_sort j) t r.0 r.1) (form_kept a [] bs (left_sort j) t r.0 r.1) (none_kept a [] bs (right_sort j) u q.0 q.1) (form_kept a [] bs (right_sort j) u q.0 q.1) h)
-form_kept a ob bs s (bind p f x t u) v e c h =
+    let left = form_kept a [] bs (left_sort j) t r.0 r.1 in
+    let right = form_kept a [] bs (right_sort j) u q.0 q.1 in
+    subst (IsKept (two p j t u)) same (refl, λ c h. both_kept (two_places c j) t r.0 u q.0 left right h)
+form_kept a ob bs s (bind p f x t u) v e =
     let g = with_class f x u in
     let b : Bound = record { name = x; binding = Variable (binder_sort g) } in
     let r = and_then (scoped a [] bs (domain_sort f) t) (λ w. scoped a [] (b ∷ bs) (body_sort f) u >>= λ z. Ok (bind p g tt w z)) v e in
     let q = and_then (scoped a [] (b ∷ bs) (body_sort f) u) (λ z. Ok (bind p g tt r.0 z)) v r.2 in
     let same : bind p g tt r.0 q.0 ≡ v = cc in
-    subst (λ (w : Scoped). HasForm c w) same
-    (at_places (bind_places c g) (is_none t) (is_none r.0) (is_none u) (is_none q.0) (λ d. HasForm d t) (λ d. HasForm d r.0) (λ d. HasForm d u) (λ d. HasForm d q.0) (none_kept a [] bs (domain_sort f) t r.0 r.1) (form_kept a [] bs (domain_sort f) t r.0 r.1) (none_kept a [] (b ∷ bs) (body_sort f) u q.0 q.1) (form_kept a [] (b ∷ bs) (body_sort f) u q.0 q.1)
-        (by_class c f x u (is_none t) (is_none u) (λ d. HasForm d t) (λ d. HasForm d u) h))
-form_kept a ob bs s (cases p f x t m us) v e c h =
+    let left = form_kept a [] bs (domain_sort f) t r.0 r.1 in
+    let right = form_kept a [] (b ∷ bs) (body_sort f) u q.0 q.1 in
+    subst (IsKept (bind p f x t u)) same (refl, λ c h. both_kept (bind_places c g) t r.0 u q.0 left right (by_class c f x u (is_none t) (is_none u) (λ d. HasForm d t) (λ d. HasForm d u) h))
+form_kept a ob bs s (cases p f x t m us) v e =
     let r = and_then (scoped a [] bs OfTerm t) (λ w. scoped a [] bs OfType m >>= λ n. scoped a (of_case f x) bs OfTerm us >>= λ ws. Ok (cases p f tt w n ws)) v e in
     let q = and_then (scoped a [] bs OfType m) (λ n. scoped a (of_case f x) bs OfTerm us >>= λ ws. Ok (cases p f tt r.0 n ws)) v r.2 in
     let k = and_then (scoped a (of_case f x) bs OfTerm us) (λ ws. Ok (cases p f tt r.0 q.0 ws)) v q.2 in
-    let same : cases p f tt r.0 q.0 k.0 ≡ v = cc in subst (λ (w : Scoped). HasForm c w) same h
-form_kept a ob bs s (branch p n ps t us) v e c h = absurd h
+    let same : cases p f tt r.0 q.0 k.0 ≡ v = cc in subst (IsKept (cases p f x t m us)) same (refl, λ c h. h)
+form_kept a ob bs s (branch p n ps t us) v e =
+    let w = and_then (wanted_as p OfTerm (stands a bs n)) (λ r. scoped a [] (with_patterns ps (ob ++ bs)) OfTerm t >>= λ w. scoped a ob bs OfTerm us >>= λ ws. Ok (branch p r (bare ps) w ws)) v e in
+    let r = and_then (scoped a [] (with_patterns ps (ob ++ bs)) OfTerm t) (λ w'. scoped a ob bs OfTerm us >>= λ ws. Ok (branch p w.0 (bare ps) w' ws)) v w.2 in
+    let k = and_then (scoped a ob bs OfTerm us) (λ ws. Ok (branch p w.0 (bare ps) r.0 ws)) v r.2 in
+    let same : branch p w.0 (bare ps) r.0 k.0 ≡ v = cc in subst (IsKept (branch p n ps t us)) same (refl, λ c h. absurd h)
 
 -- ---- items
 
@@ -113,13 +95,13 @@ item_kept a (def_item p x t u) j e h =
     let k = and_then (scoped a [] [] OfType t) (λ v. scoped a [] [] OfTerm u >>= λ w. Ok (def_item p (written a x) v w)) j f in
     let r = and_then (scoped a [] [] OfTerm u) (λ w. Ok (def_item p (written a x) k.0 w)) j k.2 in
     let same : def_item p (written a x) k.0 r.0 ≡ j = cc in
-    subst (λ (i : ScopedItem). ItemHasForm i) same (form_kept a [] [] OfType t k.0 k.1 types h.0, form_kept a [] [] OfTerm u r.0 r.1 terms h.1)
+    subst (λ (i : ScopedItem). ItemHasForm i) same ((form_kept a [] [] OfType t k.0 k.1).1 types h.0, (form_kept a [] [] OfTerm u r.0 r.1).1 terms h.1)
 item_kept a (type_item p x t u) j e h =
     let f = not_taken p (x ∷ []) (texts a.own) _ j e in
     let k = and_then (scoped a [] [] OfType t) (λ v. scoped a [] [] OfType u >>= λ w. Ok (type_item p (written a x) v w)) j f in
     let r = and_then (scoped a [] [] OfType u) (λ w. Ok (type_item p (written a x) k.0 w)) j k.2 in
     let same : type_item p (written a x) k.0 r.0 ≡ j = cc in
-    subst (λ (i : ScopedItem). ItemHasForm i) same (form_kept a [] [] OfType t k.0 k.1 kinds h.0, form_kept a [] [] OfType u r.0 r.1 types h.1)
+    subst (λ (i : ScopedItem). ItemHasForm i) same ((form_kept a [] [] OfType t k.0 k.1).1 kinds h.0, (form_kept a [] [] OfType u r.0 r.1).1 types h.1)
 item_kept a (data_item p d ps cs) j e h =
     let b : Bound = record { name = Some d; binding = Variable OfType } in
     let taken : List Text = generated d ++ texts a.own in
