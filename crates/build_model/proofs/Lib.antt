@@ -1,8 +1,10 @@
 pub mod Forms
-pub mod FormsFit
+pub mod KeptForms
 pub mod Wanted
 pub mod MadeForms
 pub mod FormedRows
 pub mod SaidForms
+pub mod RenamedForms
 pub mod ScopedForms
+pub mod FormsFit
 pub mod Items

@@ -10,19 +10,8 @@ use Rattle.scope_model.specs.ScopeNames.{Text, Variable, Bound, Exported, Around
 use Rattle.scope_model.specs.Scope.{ScopeFault, ◌>>=◌, left_sort, right_sort, domain_sort, body_sort, binder_sort, of_case, with_patterns, with_parameters, classed, with_class, wanted_as, bare, scoped, generated, item_names, texts, parameters, constructors, written, scoped_item, scoped_items, scoped_module, around}
 use Rattle.scope_model.proofs.Results.{and_then, not_taken}
 use Rattle.scope_model.proofs.ItemsNamed.{module_items}
-use Rattle.build_model.proofs.Forms.{Place, must, may, empty, Places, nowhere, both, two_places, bind_places, AtPlace, AtPlaces, IfTerm, HasForm, ItemHasForm, HaveForms}
-
--- ---- places
-
-if_term : (c : TreeClass) (P Q : Type 0) → (P → Q) → IfTerm c P → IfTerm c Q
-if_term terms P Q f h = f h
-if_term c P Q f h = absurd h
-
-at_place : (x : Place) (a b : Bool) (P Q : TreeClass → Type 0) → a ≡ b → ((c : TreeClass) → P c → Q c) → AtPlace x a P → AtPlace x b Q
-at_place (must c) a b P Q e f h = f c h
-at_place (may c) a b P Q e f (inl n) = inl (sym e ∙ n)
-at_place (may c) a b P Q e f (inr p) = inr (f c p)
-at_place empty a b P Q e f h = sym e ∙ h
+use Rattle.build_model.proofs.Forms.{two_places, bind_places, AtPlaces, HasForm, ItemHasForm, HaveForms}
+use Rattle.build_model.proofs.KeptForms.{IsKept, if_term, both_kept}
 
 -- a `Λ` whose class is found has none written
 by_use : (c : TreeClass) (o : Option Sort) (a b : Bool) (P Q : TreeClass → Type 0) → AtPlaces (bind_places c unclassed_of) a P b Q → AtPlaces (bind_places c (classed o)) a P b Q
@@ -38,35 +27,27 @@ by_class c f x u a b P Q h = h
 
 -- ---- parts
 
-abbrev IsKept : Tree Text → Scoped → Type 0
-IsKept t v = (is_none t ≡ is_none v) × ((c : TreeClass) → HasForm c t → HasForm c v)
+abbrev HasForms : Tree Text → Scoped → Type 0
+HasForms t v = IsKept t v
 
-both_kept : (l : Places) (t : Tree Text) (v : Scoped) (u : Tree Text) (w : Scoped) → IsKept t v → IsKept u w
-    → AtPlaces l (is_none t) (λ d. HasForm d t) (is_none u) (λ d. HasForm d u) → AtPlaces l (is_none v) (λ d. HasForm d v) (is_none w) (λ d. HasForm d w)
-both_kept nowhere t v u w k i h = h
-both_kept (both x y) t v u w k i h = (at_place x (is_none t) (is_none v) (λ d. HasForm d t) (λ d. HasForm d v) k.0 k.1 h.0, at_place y (is_none u) (is_none w) (λ d. HasForm d u) (λ d. HasForm d w) i.0 i.1 h.1)
-
-leaf_kept : (p : Span) (l : SourceLeaf) → is_none {B = Option Text} {N = NameUse Text} (leaf p l) ≡ is_none {B = Unit {0}} {N = Reference} (leaf p l)
-leaf_kept p star_of = refl
-leaf_kept p none_of = refl
-
-form_kept : (a : Around) (ob bs : List Bound) (s : Sort) (t : Tree Text) (v : Scoped) → scoped a ob bs s t ≡ Ok v → IsKept t v
+form_kept : (a : Around) (ob bs : List Bound) (s : Sort) (t : Tree Text) (v : Scoped) → scoped a ob bs s t ≡ Ok v → HasForms t v
 unfolding scoped
 form_kept a ob bs s (use_of p u) v e =
     let r = and_then (wanted_as p s (stands a bs u)) (λ r. Ok (use_of p r)) v e in
-    let same : use_of p r.0 ≡ v = cc in subst (IsKept (use_of p u)) same (refl, λ c h. h)
-form_kept a ob bs s (leaf p l) v e = let same : leaf p l ≡ v = cc in subst (IsKept (leaf p l)) same (leaf_kept p l, λ c h. h)
+    let same : use_of p r.0 ≡ v = cc in subst (HasForms (use_of p u)) same (refl, λ c h. h)
+form_kept a ob bs s (leaf p star_of) v e = let same : leaf p star_of ≡ v = cc in subst (HasForms (leaf p star_of)) same (refl, λ c h. h)
+form_kept a ob bs s (leaf p none_of) v e = let same : leaf p none_of ≡ v = cc in subst (HasForms (leaf p none_of)) same (refl, λ c h. h)
 form_kept a ob bs s (one p j t) v e =
     let r = and_then (scoped a [] bs OfTerm t) (λ w. Ok (one p j w)) v e in
     let same : one p j r.0 ≡ v = cc in
-    subst (IsKept (one p j t)) same (refl, λ c h. if_term c (HasForm terms t) (HasForm terms r.0) ((form_kept a [] bs OfTerm t r.0 r.1).1 terms) h)
+    subst (HasForms (one p j t)) same (refl, λ c h. if_term c (HasForm terms t) (HasForm terms r.0) ((form_kept a [] bs OfTerm t r.0 r.1).1 terms) h)
 form_kept a ob bs s (two p j t u) v e =
     let r = and_then (scoped a [] bs (left_sort j) t) (λ w. scoped a [] bs (right_sort j) u >>= λ z. Ok (two p j w z)) v e in
     let q = and_then (scoped a [] bs (right_sort j) u) (λ z. Ok (two p j r.0 z)) v r.2 in
     let same : two p j r.0 q.0 ≡ v = cc in
     let left = form_kept a [] bs (left_sort j) t r.0 r.1 in
     let right = form_kept a [] bs (right_sort j) u q.0 q.1 in
-    subst (IsKept (two p j t u)) same (refl, λ c h. both_kept (two_places c j) t r.0 u q.0 left right h)
+    subst (HasForms (two p j t u)) same (refl, λ c h. both_kept (two_places c j) t r.0 u q.0 left right h)
 form_kept a ob bs s (bind p f x t u) v e =
     let g = with_class f x u in
     let b : Bound = record { name = x; binding = Variable (binder_sort g) } in
@@ -75,17 +56,17 @@ form_kept a ob bs s (bind p f x t u) v e =
     let same : bind p g tt r.0 q.0 ≡ v = cc in
     let left = form_kept a [] bs (domain_sort f) t r.0 r.1 in
     let right = form_kept a [] (b ∷ bs) (body_sort f) u q.0 q.1 in
-    subst (IsKept (bind p f x t u)) same (refl, λ c h. both_kept (bind_places c g) t r.0 u q.0 left right (by_class c f x u (is_none t) (is_none u) (λ d. HasForm d t) (λ d. HasForm d u) h))
+    subst (HasForms (bind p f x t u)) same (refl, λ c h. both_kept (bind_places c g) t r.0 u q.0 left right (by_class c f x u (is_none t) (is_none u) (λ d. HasForm d t) (λ d. HasForm d u) h))
 form_kept a ob bs s (cases p f x t m us) v e =
     let r = and_then (scoped a [] bs OfTerm t) (λ w. scoped a [] bs OfType m >>= λ n. scoped a (of_case f x) bs OfTerm us >>= λ ws. Ok (cases p f tt w n ws)) v e in
     let q = and_then (scoped a [] bs OfType m) (λ n. scoped a (of_case f x) bs OfTerm us >>= λ ws. Ok (cases p f tt r.0 n ws)) v r.2 in
     let k = and_then (scoped a (of_case f x) bs OfTerm us) (λ ws. Ok (cases p f tt r.0 q.0 ws)) v q.2 in
-    let same : cases p f tt r.0 q.0 k.0 ≡ v = cc in subst (IsKept (cases p f x t m us)) same (refl, λ c h. h)
+    let same : cases p f tt r.0 q.0 k.0 ≡ v = cc in subst (HasForms (cases p f x t m us)) same (refl, λ c h. h)
 form_kept a ob bs s (branch p n ps t us) v e =
     let w = and_then (wanted_as p OfTerm (stands a bs n)) (λ r. scoped a [] (with_patterns ps (ob ++ bs)) OfTerm t >>= λ w. scoped a ob bs OfTerm us >>= λ ws. Ok (branch p r (bare ps) w ws)) v e in
     let r = and_then (scoped a [] (with_patterns ps (ob ++ bs)) OfTerm t) (λ w'. scoped a ob bs OfTerm us >>= λ ws. Ok (branch p w.0 (bare ps) w' ws)) v w.2 in
     let k = and_then (scoped a ob bs OfTerm us) (λ ws. Ok (branch p w.0 (bare ps) r.0 ws)) v r.2 in
-    let same : branch p w.0 (bare ps) r.0 k.0 ≡ v = cc in subst (IsKept (branch p n ps t us)) same (refl, λ c h. absurd h)
+    let same : branch p w.0 (bare ps) r.0 k.0 ≡ v = cc in subst (HasForms (branch p n ps t us)) same (refl, λ c h. absurd h)
 
 -- ---- items
 
