@@ -22,7 +22,7 @@ use Rattle.build_model.proofs.FormsFit.{none_behind}
 abbrev pub AreFresh : List Text → List Text → Type 0
 AreFresh xs zs = AllByRecursion (λ z. IsFresh z xs) zs
 
-differs : (b : Bool) → b ≡ false → b ≡ true → ⊥
+pub differs : (b : Bool) → b ≡ false → b ≡ true → ⊥
 differs b e f = absurd cc
 
 fresh_more : (x z : Text) (xs : List Text) → IsFresh z xs → bytes_eq x z ≡ false → IsFresh z (xs ++ x ∷ [])

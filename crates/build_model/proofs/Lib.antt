@@ -8,3 +8,6 @@ pub mod RenamedForms
 pub mod ScopedForms
 pub mod FormsFit
 pub mod Items
+pub mod Together
+pub mod KnownNames
+pub mod NoDots

@@ -3,4 +3,7 @@
 
 mod laws;
 
-pub use laws::{said_module_fits, scoped_names_differ, scoped_sorts_follow};
+pub use laws::{
+    items_stand_together, names_have_no_dot, said_module_fits, scoped_names_differ,
+    scoped_sorts_follow,
+};
