@@ -7,6 +7,7 @@ pub mod SaidForms
 pub mod RenamedForms
 pub mod ScopedForms
 pub mod FormsFit
+pub mod FitsBuilt
 pub mod Items
 pub mod Together
 pub mod KnownNames
