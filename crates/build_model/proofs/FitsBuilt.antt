@@ -1,9 +1,9 @@
 -- Where the surface rules may be asked of a part, nothing is unbuilt in it.
-use Rattle.std.proofs.Common.{◌≡◌, true, List, [], ◌∷◌, ◌++◌, ◌⊎◌, inl, inr, Option, Some, None, refl}
+use Rattle.std.proofs.Common.{◌≡◌, true, List, [], ◌∷◌, ◌⊎◌, inl, inr, Option, Some, None, refl}
 use Rattle.cdle_model.specs.declared.grammar.Sort.{Sort}
 use Rattle.cdle_model.specs.declared.grammar.Sort.TheVariants.{OfTerm, OfType}
 use Rattle.cdle_model.specs.Classes.{terms, types, kinds}
-use Rattle.source_model.specs.Source.{Span, use_of, leaf, one, two, bind, cases, branch, group_of, guide_of, def_item, type_item, data_item}
+use Rattle.source_model.specs.Source.{Span, use_of, leaf, two, bind, group_of, guide_of, def_item, type_item, data_item}
 use Rattle.source_model.specs.Heights.{is_none}
 use Rattle.scope_model.specs.Scoped.{Scoped, ScopedItem}
 use Rattle.elab_model.specs.ScopedForms.{s_name, s_lam, s_elam, s_xlam, s_unclassed, s_app, s_eapp, s_tapp, s_pair, s_fst, s_snd, s_beta, s_rho, s_phi, s_delta, s_chi, s_flip, s_pi, s_all, s_allt, s_tlam, s_xtlam, s_iota, s_at, s_on, s_eq, s_star, s_kpi, s_kpit}

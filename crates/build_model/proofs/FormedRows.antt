@@ -1,18 +1,17 @@
 -- Each row of the grammar, behind its first token, gives what is to hold of what its symbol leaves.
-use Rattle.std.proofs.Common.{◌≡◌, ℕ, pred, Bool, true, false, List, [], ◌∷◌, ◌⊎◌, inl, inr, Option, Some, None, refl}
-use Rattle.cdle_model.specs.declared.grammar.Mode.TheVariants.{Kept, Erased, OfType}
+use Rattle.std.proofs.Common.{ℕ, pred, Bool, true, false, List, [], ◌∷◌, inl, inr, Option, Some, None, refl}
 use Rattle.cdle_model.specs.Classes.{terms, types}
 use Rattle.source_model.specs.Source.{Tree}
-use Rattle.source_model.specs.Heights.{is_kind, is_none}
+use Rattle.source_model.specs.Heights.{is_kind}
 use Rattle.source_model.specs.Grammar.{Token, Value, token, part, patterns, branches, parameters, constructors, module_so_far, Need, any, of_type, as_domain, Symbol, The, Term, Spine, Atom, ClassAtom, Class, Body, Owner, Annotation, Side, KeptTerm, TypeGiven, Motive, MaybeArrow, Projections, Patterns, Arguments, TypeArguments, Branches, Imports, Items, Parameters, Constructors, Want, Test_, Make, Read, IsType, IsShallow}
 use Rattle.source_model.specs.Grammar as m
-use Rattle.source_model.specs.Rows.{row, only, same_kind, atom_row, whole_atom_row, spine_row, term_row, argument_row, class_atom_row, class_row, type_argument_row, arrow_row, pattern_row, projection_row, branch_row, owner_row, annotation_row, side_row, kept_row, motive_row, import_row, parameter_row, constructor_row, item_row, body_row, body_is_type, outermost, one_less, raised, ◌▸◌}
-use Rattle.source_model.specs.Made.{made, product, forall, defined}
-use Rattle.source_model.specs.Parsing.{Given, complaint}
+use Rattle.source_model.specs.Rows.{row, same_kind, atom_row, whole_atom_row, spine_row, term_row, argument_row, class_atom_row, class_row, type_argument_row, arrow_row, pattern_row, projection_row, branch_row, owner_row, annotation_row, side_row, kept_row, motive_row, import_row, parameter_row, constructor_row, item_row, body_row, body_is_type, outermost, raised, ◌▸◌}
+use Rattle.source_model.specs.Made.{made, defined}
+use Rattle.source_model.specs.Parsing.{Given}
 use Rattle.source_model.specs.declared.token.TokenKind.{TokenKind}
 use Rattle.source_model.specs.declared.token.TokenKind.TheVariants as k
-use Rattle.build_model.proofs.Forms.{HasForm, HaveForms}
-use Rattle.build_model.proofs.Wanted.{After, IsClass, IsBody, IsAnnotation, OnTerm, OnClass, OnOption, OnEnclosed, OnOwner, BehindTerm, BehindClass, OnPatterns, OnBranches, OnParameters, OnConstructors, OnModule, OnSymbol, OnWant, OnWants, OnRow, row_on, raised_on, only_on, counted_on, wants_on, type_is, fits_is, behind_type_on, as_type}
+use Rattle.build_model.proofs.Forms.{HasForm}
+use Rattle.build_model.proofs.Wanted.{After, IsClass, IsBody, IsAnnotation, OnTerm, OnClass, OnOption, OnEnclosed, OnOwner, OnPatterns, OnBranches, OnParameters, OnConstructors, OnModule, OnSymbol, OnWants, OnRow, row_on, raised_on, only_on, counted_on, type_is, fits_is, behind_type_on, as_type}
 use Rattle.build_model.proofs.MadeForms.{product_formed, forall_formed, lambda_formed, erased_formed, defined_formed, one_item, import_formed}
 
 module _ {A : Type 0} (g : Given A) where

@@ -1,5 +1,5 @@
 -- One part has the forms of another.
-use Rattle.std.proofs.Common.{◌≡◌, Bool, inl, inr, refl, sym, ◌∙◌}
+use Rattle.std.proofs.Common.{◌≡◌, Bool, inl, inr, sym, ◌∙◌}
 use Rattle.cdle_model.specs.Classes.{TreeClass, terms}
 use Rattle.source_model.specs.Source.{Source}
 use Rattle.source_model.specs.Heights.{is_none}

@@ -1,6 +1,6 @@
 -- What the rows make of parts of their classes is of its class.
 use Rattle.std.proofs.Common.{◌≡◌, ℕ, Bool, true, false, cond, List, [], ◌∷◌, ◌++◌, ◌⊎◌, Option, Some, refl}
-use Rattle.cdle_model.specs.Classes.{terms, types, kinds}
+use Rattle.cdle_model.specs.Classes.{terms, types}
 use Rattle.source_model.specs.Source.{Span, bind, pi_of, all_of, allt_of, tlam_of, xtlam_of, kpi_of, kpit_of, elam_of, xlam_of, unclassed_of, def_item, type_item, Tree, Item, Module}
 use Rattle.source_model.specs.Heights.{is_kind, is_none}
 use Rattle.source_model.specs.Grammar.{Token}

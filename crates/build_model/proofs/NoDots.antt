@@ -1,7 +1,6 @@
 -- The names of a text's tokens have no dot.
 use Rattle.std.proofs.Common.{◌≡◌, ℕ, suc, ◌==◌, ◌<◌, Bool, true, false, if◌then◌else◌, List, [], ◌∷◌, length, get_or, ◌||◌, inl, inr, refl, sym, ap, subst, ◌∙◌, arith, Ok, map}
 use Rattle.std.specs.Prelude.{slice_range}
-use Rattle.std.specs.List.{list_any}
 use Rattle.std.specs.Str.{IsUtf8, NonePass, encode_utf8_all}
 use Rattle.std.proofs.lemmas.Bool.{both_ways, eqb-true}
 use Rattle.std.proofs.lemmas.Str.{NoCharPasses-byte}

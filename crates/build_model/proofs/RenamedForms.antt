@@ -1,10 +1,9 @@
 -- A module has the same forms, whatever its names are.
-use Rattle.std.proofs.Common.{◌≡◌, Bool, List, [], ◌∷◌, inl, inr, map, Option, refl, sym, ◌∙◌}
-use Rattle.cdle_model.specs.Classes.{TreeClass, terms, types, kinds}
-use Rattle.source_model.specs.Source.{Span, use_of, leaf, one, two, bind, cases, branch, SourceLeaf, star_of, none_of, def_item, type_item, data_item, NameUse, Tree, Item}
-use Rattle.source_model.specs.Heights.{is_none}
+use Rattle.std.proofs.Common.{List, [], ◌∷◌, map, refl}
+use Rattle.cdle_model.specs.Classes.{terms, types, kinds}
+use Rattle.source_model.specs.Source.{use_of, leaf, one, two, bind, cases, branch, star_of, none_of, def_item, type_item, data_item, Tree, Item}
 use Rattle.build_model.specs.Renamed.{renamed, renamed_item}
-use Rattle.build_model.proofs.Forms.{Places, two_places, bind_places, AtPlaces, HasForm, ItemHasForm, HaveForms}
+use Rattle.build_model.proofs.Forms.{two_places, bind_places, HasForm, ItemHasForm, HaveForms}
 use Rattle.build_model.proofs.KeptForms.{IsKept, if_term, both_kept}
 
 module _ {A B : Type 0} (f : A → B) where

@@ -1,8 +1,8 @@
 -- Each item of a module that tokens say is a definition of a term or a type by its forms.
-use Rattle.std.proofs.Common.{◌≡◌, ℕ, List, [], ◌∷◌, inl, Option, Some, refl, subst}
+use Rattle.std.proofs.Common.{◌≡◌, ℕ, List, ◌∷◌, inl, refl, subst}
 use Rattle.source_model.specs.Source.{Module, none, nowhere}
-use Rattle.source_model.specs.Grammar.{Token, Value, token, part, patterns, branches, parameters, constructors, module_so_far, Symbol, The, Term, Spine, Atom, ClassAtom, Class, Body, Owner, Annotation, Side, KeptTerm, TypeGiven, Motive, MaybeArrow, Projections, Patterns, Arguments, TypeArguments, Branches, Imports, Items, Parameters, Constructors, Want, Read}
-use Rattle.source_model.specs.Rows.{Row, row, leaving, MustStand}
+use Rattle.source_model.specs.Grammar.{Token, Value, token, part, patterns, branches, parameters, constructors, module_so_far, Symbol, Owner, Annotation, Side, KeptTerm, TypeGiven, Motive, MaybeArrow, Projections, Patterns, Arguments, TypeArguments, Branches, Imports, Items, Parameters, Constructors, Want}
+use Rattle.source_model.specs.Rows.{Row, leaving, MustStand}
 use Rattle.source_model.specs.Made.{made, left_out}
 use Rattle.source_model.specs.Parsing.{Given}
 use Rattle.source_model.specs.SurfaceText.{Reads, begins, left, makes, tests, ReadsAll, end, more, Says}

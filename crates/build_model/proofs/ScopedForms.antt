@@ -1,13 +1,13 @@
 -- The scope of a part keeps its form.
-use Rattle.std.proofs.Common.{◌≡◌, Bool, true, false, if◌then◌else◌, List, [], ◌∷◌, ◌++◌, ◌⊎◌, inl, inr, Option, Some, None, Ok, Err, Result, refl, sym, ap, subst, ◌∙◌}
+use Rattle.std.proofs.Common.{◌≡◌, Bool, List, [], ◌∷◌, ◌++◌, inl, Option, Some, None, Ok, refl, subst}
 use Rattle.cdle_model.specs.declared.grammar.Sort.{Sort}
 use Rattle.cdle_model.specs.declared.grammar.Sort.TheVariants.{OfTerm, OfType}
 use Rattle.cdle_model.specs.Classes.{TreeClass, terms, types, kinds}
-use Rattle.source_model.specs.Source.{Span, use_of, leaf, one, two, bind, cases, branch, SourceLeaf, star_of, none_of, SourceBinder, elam_of, xlam_of, unclassed_of, def_item, type_item, data_item, NameUse, Tree, Item, Module}
+use Rattle.source_model.specs.Source.{use_of, leaf, one, two, bind, cases, branch, star_of, none_of, SourceBinder, unclassed_of, def_item, type_item, data_item, Tree, Item, Module}
 use Rattle.source_model.specs.Heights.{is_none}
-use Rattle.scope_model.specs.Scoped.{Reference, Scoped, ScopedItem, ScopedModule}
+use Rattle.scope_model.specs.Scoped.{Scoped, ScopedItem, ScopedModule}
 use Rattle.scope_model.specs.ScopeNames.{Text, Variable, Bound, Exported, Around, stands}
-use Rattle.scope_model.specs.Scope.{ScopeFault, ◌>>=◌, left_sort, right_sort, domain_sort, body_sort, binder_sort, of_case, with_patterns, with_parameters, classed, with_class, wanted_as, bare, scoped, generated, item_names, texts, parameters, constructors, written, scoped_item, scoped_items, scoped_module, around}
+use Rattle.scope_model.specs.Scope.{◌>>=◌, left_sort, right_sort, domain_sort, body_sort, binder_sort, of_case, with_patterns, with_parameters, classed, with_class, wanted_as, bare, scoped, generated, item_names, texts, parameters, constructors, written, scoped_item, scoped_items, scoped_module, around}
 use Rattle.scope_model.proofs.Results.{and_then, not_taken}
 use Rattle.scope_model.proofs.ItemsNamed.{module_items}
 use Rattle.build_model.proofs.Forms.{two_places, bind_places, AtPlaces, HasForm, ItemHasForm, HaveForms}

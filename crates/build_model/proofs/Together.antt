@@ -1,5 +1,5 @@
 -- Items behind others, put together.
-use Rattle.std.proofs.Common.{◌≡◌, List, [], ◌∷◌, ◌++◌, map, refl, sym, subst, append_assoc}
+use Rattle.std.proofs.Common.{List, [], ◌∷◌, ◌++◌, map, sym, subst, append_assoc}
 use Rattle.std.proofs.lemmas.List.{append-nil}
 use Rattle.cdle_model.specs.declared.grammar.Sort.{Sort}
 use Rattle.scope_model.specs.Scoped.{ScopedItem}

@@ -1,9 +1,9 @@
 -- What is to hold of the values where something is wanted: whatever is read for it, it holds of the values behind it. A part that is read is of the class that is wanted.
-use Rattle.std.proofs.Common.{◌≡◌, ℕ, Bool, true, false, cond, List, [], ◌∷◌, ◌++◌, ◌⊎◌, inl, inr, Option, Some, None, refl, sym, ap, subst}
+use Rattle.std.proofs.Common.{◌≡◌, ℕ, Bool, true, false, cond, List, [], ◌∷◌, ◌++◌, ◌⊎◌, Option, Some, None, refl, subst}
 use Rattle.cdle_model.specs.Classes.{terms, types, kinds}
 use Rattle.source_model.specs.Source.{Tree, Module, Pattern, Parameter, Constructor, NameUse}
 use Rattle.source_model.specs.Heights.{is_kind, is_none}
-use Rattle.source_model.specs.Grammar.{Token, Branch, Value, token, part, enclosed, nothing, patterns, branches, parameters, constructors, module_so_far, Need, any, of_type, as_domain, IsType, Fits, HeadIsType, Symbol, The, Term, Spine, Atom, ClassAtom, Class, Body, Owner, Annotation, Side, KeptTerm, TypeGiven, Motive, MaybeArrow, Projections, Patterns, Arguments, TypeArguments, Branches, Imports, Items, Parameters, Constructors, Want, Test_, Make, Read}
+use Rattle.source_model.specs.Grammar.{Token, Branch, Value, token, part, enclosed, nothing, patterns, branches, parameters, constructors, module_so_far, Need, of_type, IsType, Fits, HeadIsType, Symbol, The, Term, Spine, Atom, ClassAtom, Class, Body, Owner, Annotation, Side, KeptTerm, TypeGiven, Motive, MaybeArrow, Projections, Patterns, Arguments, TypeArguments, Branches, Imports, Items, Parameters, Constructors, Want, Test_, Make, Read}
 use Rattle.source_model.specs.Rows.{Row, ◌▸◌, only, raised, behind_type, counted, body_is_type}
 use Rattle.source_model.specs.Made.{made}
 use Rattle.source_model.specs.Parsing.{Fault, Given, complaint}
