@@ -20,12 +20,12 @@ ghost use Rattle.build_model.specs.Renamed.{renamed_module};
 ghost use Rattle.build_model.specs.Unbuilt.{unbuilt_items};
 
 /// Each part of its items is of its class, and uses each variable and each item in its class; also where its tokens are called by the numbers of a table. Where
-/// something is unbuilt this does not hold, so what is refused for that is only what the surface rules say nothing of.
+/// something is unbuilt this holds over no items, so what is refused for that is only what the surface rules say nothing of.
 pub fn said_module_fits()
     ensures text { (g : Given Text) (ts : List (Token Text)) (m : Module Text) (known : List Exported) (r : ScopedModule) → Says g ts m → AreNumbered 0 known → scoped_module known m ≡ Ok r → unbuilt_items r.items ≡ None → SourceItemsFit (known_sorts known) r.items }
     ensures table { (g : Given ℕ) (ts : List (Token ℕ)) (m : Module ℕ) (text : ℕ → Text) (known : List Exported) (r : ScopedModule) → Says g ts m → AreNumbered 0 known → scoped_module known (renamed_module text m) ≡ Ok r → unbuilt_items r.items ≡ None
         → SourceItemsFit (known_sorts known) r.items }
-    ensures only { (g : Given Text) (ts : List (Token Text)) (m : Module Text) (known : List Exported) (r : ScopedModule) → Says g ts m → scoped_module known m ≡ Ok r → SourceItemsFit (known_sorts known) r.items → unbuilt_items r.items ≡ None }
+    ensures only { (g : Given Text) (ts : List (Token Text)) (m : Module Text) (known : List Exported) (r : ScopedModule) (xs : List Sort) → Says g ts m → scoped_module known m ≡ Ok r → SourceItemsFit xs r.items → unbuilt_items r.items ≡ None }
 {}
 
 /// No two of its items have one name, and none has that of an item of the modules before it, where no name of a module has a dot.

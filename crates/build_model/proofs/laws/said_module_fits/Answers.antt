@@ -15,4 +15,4 @@ pub returns-clause-table : goal.returns-clause-table
 returns-clause-table c = λ g ts m text known r s n e u. items_fit (known_sorts known) r.items (module_kept known (renamed_module text m) r e (items_renamed text m.items (said_forms g ts m s))) (module_fits known (renamed_module text m) r n e) u
 
 pub returns-clause-only : goal.returns-clause-only
-returns-clause-only c = λ g ts m known r s e f. items_built (known_sorts known) r.items (module_kept known m r e (said_forms g ts m s)) f
+returns-clause-only c = λ g ts m known r xs s e f. items_built xs r.items (module_kept known m r e (said_forms g ts m s)) f
