@@ -41,8 +41,9 @@ pub fn core_command<F: Folder>(
     // or earlier.
     ensures undecided { (place : SpotOf) (units : ℕ) → result.outcome ≡ outcomes.Undecided place units → (units ≡ budget) × AreUndecided budget (record { before = F.state folder.old; after = F.state folder.new }) (map string_bytes files.now.items) place }
 
-    // No file is written.
+    // No file is written, and no write fails.
     ensures files { (F.state folder.new).files ≡ (F.state folder.old).files }
+    ensures write_faults { (F.state folder.new).write_faults ≡ (F.state folder.old).write_faults }
 
     // Where the folder tells its files, and none of its faults is counted, then the trace is the one where nothing fails; and where the plain
     // check with this budget is not spent, that has one outcome, in whose place only want of memory may be answered.
@@ -69,6 +70,7 @@ fn work<F: Folder>(
     folder: &mut F,
 ) -> Result<Done, Stop>
     ensures files { (F.state folder.new).files ≡ (F.state folder.old).files }
+    ensures write_faults { (F.state folder.new).write_faults ≡ (F.state folder.old).write_faults }
     ensures done { IfOk result (IsTraced (IsVerdictAtSomeBudget budget) (record { before = F.state folder.old; after = F.state folder.new }) (map string_bytes files.now.items)) }
     ensures ended { IfErr result (EndsEarly (IsVerdictAtSomeBudget budget) (record { before = F.state folder.old; after = F.state folder.new }) (map string_bytes files.now.items)) }
 {

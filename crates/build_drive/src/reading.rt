@@ -43,6 +43,7 @@ pub(crate) fn read_files<F: Folder>(
     folder: &mut F,
 ) -> Result<Vec<CoreFile>, Stop>
     ensures files { (F.state folder.new).files ≡ (F.state folder.old).files }
+    ensures write_faults { (F.state folder.new).write_faults ≡ (F.state folder.old).write_faults }
     ensures items { IfOk result (λ read. AreScoped (items_of read.items)) }
     ensures few { IfOk result (λ read. length (items_of read.items) ≤ most_items) }
     ensures read { IfOk result (λ read. (n : ℕ) → HasCome (IsVerdictAtSomeBudget n) (record { before = F.state folder.old; after = F.state folder.new }) (map string_bytes files.now.items) (F.state folder.new).given (items_of read.items) []) }
@@ -72,6 +73,7 @@ impl Reading {
     fn add<F: Folder>(&mut self, alloc: Global, file: &str, folder: &mut F) -> Result<(), Stop>
         requires { IsInStep self.old }
         ensures files { (F.state folder.new).files ≡ (F.state folder.old).files }
+        ensures write_faults { (F.state folder.new).write_faults ≡ (F.state folder.old).write_faults }
         ensures read_faults { (F.state folder.old).read_faults ≤ (F.state folder.new).read_faults }
         ensures absences { (F.state folder.old).absences ≤ (F.state folder.new).absences }
         ensures in_step { OnOk result (IsInStep self.new) }
@@ -98,6 +100,7 @@ fn read_file<F: Folder>(
     requires counted { items ≡ length (known_names known.now) }
     requires few { items ≤ most_items }
     ensures files { (F.state folder.new).files ≡ (F.state folder.old).files }
+    ensures write_faults { (F.state folder.new).write_faults ≡ (F.state folder.old).write_faults }
     ensures read_faults { (F.state folder.old).read_faults ≤ (F.state folder.new).read_faults }
     ensures absences { (F.state folder.old).absences ≤ (F.state folder.new).absences }
     ensures read { IfOk result (λ read. IsRead (record { before = F.state folder.old; after = F.state folder.new }) file.now (known_names known.now) read.items) }

@@ -82,7 +82,7 @@ fn most_items(alloc: Global) -> Result<String, Fail> {
 
 /// A folder with a file that is too long, one of most items, and the identity; its sixth read fails.
 fn limit_files(alloc: Global) -> Result<MemoryFolder, Fail> {
-    let mut folder = MemoryFolder::new(alloc, only(alloc, 5)?);
+    let mut folder = MemoryFolder::new(alloc, only(alloc, 5)?, Vec::new(alloc));
     folder.add("long", " ".repeat(alloc, 1_048_577)?.as_bytes())?;
     folder.add("id", IDENTITY.as_bytes())?;
     folder.add("most", most_items(alloc)?.as_bytes())?;

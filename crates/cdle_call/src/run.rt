@@ -1,6 +1,6 @@
 //! The top call.
 ghost use Rattle.std.specs.Prelude.{◌≡◌, ◌⊎◌, [], ℕ, List, None, Some, length, map, string_bytes};
-ghost use Rattle.cdle_folder.specs.Causes.{Quiet, Rose};
+ghost use Rattle.cdle_folder.specs.Causes.{Quiet, Rose, next_count};
 ghost use Rattle.cdle_folder.specs.Files.{Bytes, Files};
 ghost use Rattle.cdle_model.specs.Check.{accepts, check_items};
 ghost use Rattle.cdle_model.specs.Forms.{Written};
@@ -60,8 +60,12 @@ pub fn cdle_run<F: Folder, S: Sink>(
     ensures undecided { (place : SpotOf) (units : ℕ) → result.outcome ≡ outcomes.Undecided place units → IsSpent (command_of (map string_bytes words.now.items))
         (record { before = F.state folder.old; after = F.state folder.new }) place units }
 
-    // No file is written.
+    // No file is written, and no write fails.
     ensures files { (F.state folder.new).files ≡ (F.state folder.old).files }
+    ensures write_faults { (F.state folder.new).write_faults ≡ (F.state folder.old).write_faults }
+
+    // Bytes are put just once, whatever the outcome.
+    ensures puts { (S.state out.new).puts ≡ next_count (S.state out.old).puts }
 
     // Where the folder tells its files, and no fault of folder or sink is counted, there is one outcome, which the words and the files determine
     // where the plain check with the words' budget is not spent; only want of memory may be answered in its place.
@@ -86,6 +90,7 @@ pub fn cdle_run<F: Folder, S: Sink>(
 /// Does what the words ask for.
 fn work<F: Folder>(alloc: Global, words: &Vec<String>, folder: &mut F) -> Done
     ensures files { (F.state folder.new).files ≡ (F.state folder.old).files }
+    ensures write_faults { (F.state folder.new).write_faults ≡ (F.state folder.old).write_faults }
     ensures work { IsWork (command_of (map string_bytes words.now.items))
         (record { before = F.state folder.old; after = F.state folder.new }) result }
 {
@@ -108,7 +113,8 @@ fn usage(alloc: Global) -> Done
 
 /// Puts the report; the outcome stands where that is done.
 fn put_report<S: Sink>(done: Done, out: &mut S) -> Outcome
-    ensures { Ends (record { before = S.state out.old; after = S.state out.new }) (bytes_put done.outcome done.report.items) done.outcome result }
+    ensures puts { (S.state out.new).puts ≡ next_count (S.state out.old).puts }
+    ensures ends { Ends (record { before = S.state out.old; after = S.state out.new }) (bytes_put done.outcome done.report.items) done.outcome result }
 {
     match out.put(bytes_of(&done)) {
         Ok(()) => done.outcome,

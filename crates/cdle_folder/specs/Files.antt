@@ -21,6 +21,12 @@ with_file name bytes files other = if bytes_eq name other then Some bytes else f
 abbrev pub told : Option Files → Bytes → Option (Option Bytes)
 told files name = option_map (λ f. f name) files
 
+-- the files are told as before, and each other name has what it had
+abbrev pub IsOtherwiseSame : Bytes → Option Files → Option Files → Type 0
+IsOtherwiseSame name None None = Unit {0}
+IsOtherwiseSame name (Some old) (Some new) = (other : Bytes) → (other ≡ name → ⊥) → new other ≡ old other
+IsOtherwiseSame name old new = ⊥
+
 -- a file is there, and is longer
 abbrev pub IsLonger : ℕ → Option Bytes → Type 0
 IsLonger limit None = ⊥

@@ -1,6 +1,6 @@
 //! What the program reads and writes, as traits with a written meaning, and their implementations.
 //!
-//! A `Folder` gives the bytes of files, and a `Sink` takes the bytes of a report. Their clauses say what each call answers and what it
+//! A `Folder` gives and takes the bytes of files, and a `Sink` takes the bytes of a report. Their clauses say what each call answers and what it
 //! leaves, and that a fault is answered only where its count rose, which generic code can't bring about by itself. The folders and the
 //! sink in memory tell all that they hold. `DirFolder` and `StdSink` are the trusted edge: they tell no content, and stand on std's files.
 #![tactic(auto)]
@@ -12,8 +12,8 @@ mod sink;
 mod sure;
 
 pub use cdle_model::NoMemory;
-pub use memory::MemoryFolder;
-pub use outside::{Folder, PutFailed, ReadStop, Sink};
+pub use memory::{ChangeRead, MemoryFolder};
+pub use outside::{Folder, PutFailed, ReadStop, Sink, WriteStop};
 pub use real::{DirFolder, StdSink};
 pub use sink::MemorySink;
 pub use sure::SureFolder;

@@ -1,11 +1,12 @@
 //! The real folder and the real output: nothing is told of what they hold.
-ghost use Rattle.std.specs.Prelude.{◌≡◌, ◌≤◌, None, IfOk, length, string_bytes};
+ghost use Rattle.std.specs.Prelude.{◌≡◌, ◌≤◌, None, IfOk, IsTrue, length, string_bytes};
+ghost use Rattle.std.specs.Io.KnownBytes.{Appends};
 ghost use Rattle.cdle_folder.specs.Real.{TakesAll, path_in};
 
-use crate::outside::{Folder, PutFailed, ReadStop, Sink};
+use crate::outside::{Folder, PutFailed, ReadStop, Sink, WriteStop};
 use std::alloc::{AllocError, Global};
 use std::fs;
-use std::io::{ErrorKind, Print, Read};
+use std::io::{ErrorKind, Print, Read, Write};
 use std::rt::Files;
 
 /// The files of a folder of the system.
@@ -14,6 +15,7 @@ pub struct DirFolder<'a, R: Files> {
     rt: &'a R,
     dir: String,
     read_faults: u64,
+    write_faults: u64,
     absences: u64,
 }
 
@@ -24,6 +26,7 @@ impl<'a, R: Files> DirFolder<'a, R> {
             rt,
             dir,
             read_faults: 0,
+            write_faults: 0,
             absences: 0,
         }
     }
@@ -71,8 +74,30 @@ fn read_path<R: Files>(rt: &R, alloc: Global, path: &str, limit: u64) -> Result<
     }
 }
 
+// Writes all the bytes at the end of the file, or answers that it failed. A file that takes nothing has failed.
+fn append_all<F: Write>(file: &mut F, bytes: &[u8]) -> bool
+    ensures { IsTrue result → Appends (F.contents file.old) (F.contents file.new) bytes.now }
+{
+    let mut at = 0;
+    while at < bytes.len() {
+        match file.write(&bytes[at..]) {
+            Ok(0) | Err(_) => return false,
+            Ok(count) => at += count,
+        }
+    }
+    true
+}
+
+// Makes these bytes the file of that path, or answers that it failed.
+fn write_path<R: Files>(rt: &R, path: &str, bytes: &[u8]) -> bool {
+    match fs::create(rt, path) {
+        Ok(mut file) => append_all(&mut file, bytes),
+        Err(_) => false,
+    }
+}
+
 impl<'a, R: Files> Folder for DirFolder<'a, R> {
-    ghost state = { λ s. record { files = None; given = None; read_faults = s.read_faults; absences = s.absences } };
+    ghost state = { λ s. record { files = None; given = None; read_faults = s.read_faults; write_faults = s.write_faults; absences = s.absences } };
 
     /// An absence is counted where the system says that the name does not exist. A folder's name, and a path whose middle is a plain
     /// file, are faults.
@@ -88,19 +113,36 @@ impl<'a, R: Files> Folder for DirFolder<'a, R> {
         }
         answer
     }
+
+    /// A file that is there loses what it had before the first byte is written.
+    fn write(&mut self, alloc: Global, name: &str, bytes: &[u8]) -> Result<(), WriteStop> {
+        let Ok(path) = path_of(alloc, self.dir.as_str(), name) else {
+            return Err(WriteStop::NoMemory);
+        };
+        if write_path(self.rt, path.as_str(), bytes) {
+            return Ok(());
+        }
+        self.write_faults = self.write_faults.saturating_add(1);
+        Err(WriteStop::Failed)
+    }
 }
 
 /// The standard output.
 #[derive(Drop)]
 pub struct StdSink<'a, R: Print> {
     rt: &'a R,
+    puts: u64,
     faults: u64,
 }
 
 impl<'a, R: Print> StdSink<'a, R> {
     /// The output of that runtime.
     pub fn new(rt: &'a R) -> StdSink<'a, R> {
-        StdSink { rt, faults: 0 }
+        StdSink {
+            rt,
+            puts: 0,
+            faults: 0,
+        }
     }
 }
 
@@ -117,9 +159,10 @@ fn print_all<R: Print>(rt: &R, bytes: &[u8]) -> bool {
 }
 
 impl<'a, R: Print> Sink for StdSink<'a, R> {
-    ghost state = { λ s. record { written = None; faults = s.faults } };
+    ghost state = { λ s. record { written = None; puts = s.puts; faults = s.faults } };
 
     fn put(&mut self, bytes: &[u8]) -> Result<(), PutFailed> {
+        self.puts = self.puts.saturating_add(1);
         if print_all(self.rt, bytes) {
             return Ok(());
         }

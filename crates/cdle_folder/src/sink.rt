@@ -1,5 +1,6 @@
 //! A sink in memory.
-ghost use Rattle.std.specs.Prelude.{◌≡◌, ◌+◌, ◌-◌, ◌^◌, ◌≤◌, ◌++◌, ◌&&◌, not, [], Some, nat_le, min, if◌then◌else◌, IfOk, length, vec_capacity};
+ghost use Rattle.std.specs.Prelude.{◌≡◌, ◌+◌, ◌-◌, ◌≤◌, ◌++◌, ◌&&◌, not, [], Some, nat_le, if◌then◌else◌, IfOk, length, vec_capacity};
+ghost use Rattle.cdle_folder.specs.Causes.{next_count};
 ghost use Rattle.cdle_folder.specs.Memory.{is_in};
 
 use crate::memory::is_listed;
@@ -22,7 +23,7 @@ pub struct MemorySink {
 impl MemorySink {
     /// Nothing is written. The puts in `fail` fail, counted from 0, and each that finds too little room.
     pub fn new(alloc: Global, fail: Vec<u32>, room: usize) -> Result<MemorySink, NoMemory>
-        ensures state { IfOk result (λ sink. ⟦<MemorySink as Sink>⟧.state sink ≡ record { written = Some []; faults = 0 }) }
+        ensures state { IfOk result (λ sink. ⟦<MemorySink as Sink>⟧.state sink ≡ record { written = Some []; puts = 0; faults = 0 }) }
         ensures fails { IfOk result (λ sink. sink.fail ≡ fail) }
         ensures room { IfOk result (λ sink. sink.room ≡ room) }
         ensures puts { IfOk result (λ sink. sink.puts ≡ 0) }
@@ -45,7 +46,7 @@ impl MemorySink {
         ensures written { self.new.bytes.items ≡ (if result then self.old.bytes.items ++ bytes.now else self.old.bytes.items) }
         ensures room { self.new.room ≡ (if result then self.old.room - length bytes.now else self.old.room) }
         ensures faults { self.new.faults ≡ self.old.faults }
-        ensures puts { self.new.puts ≡ min (self.old.puts + 1) (2 ^ 64 - 1) }
+        ensures puts { self.new.puts ≡ next_count self.old.puts }
         ensures fail { self.new.fail ≡ self.old.fail }
     {
         let put = self.puts;
@@ -57,6 +58,13 @@ impl MemorySink {
         self.bytes.extend_from_slice(bytes).is_ok()
     }
 
+    /// How often bytes were put, failing puts too.
+    pub fn puts(&self) -> u64
+        ensures { result ≡ (⟦<MemorySink as Sink>⟧.state self.now).puts }
+    {
+        self.puts
+    }
+
     /// What is written.
     pub fn bytes(&self) -> &[u8]
         ensures { Some result.now ≡ (⟦<MemorySink as Sink>⟧.state self.now).written }
@@ -66,7 +74,7 @@ impl MemorySink {
 }
 
 impl Sink for MemorySink {
-    ghost state = { λ s. record { written = Some s.bytes.items; faults = s.faults } };
+    ghost state = { λ s. record { written = Some s.bytes.items; puts = s.puts; faults = s.faults } };
 
     fn put(&mut self, bytes: &[u8]) -> Result<(), PutFailed> {
         if self.append(bytes) {

@@ -4,12 +4,12 @@ ghost use Rattle.cdle_folder.specs.Files.{no_files, with_file};
 ghost use Rattle.cdle_folder.specs.Memory.{files_in};
 
 use crate::memory::{look, put_file};
-use crate::outside::{Folder, ReadStop};
+use crate::outside::{Folder, ReadStop, WriteStop};
 use cdle_model::NoMemory;
 use std::alloc::Global;
 use std::collections::BTreeMap;
 
-/// Files in memory. Its count of faults is 0.
+/// Files in memory. Its counts of faults are 0.
 #[derive(Debug, Drop)]
 pub struct SureFolder {
     alloc: Global,
@@ -20,7 +20,7 @@ pub struct SureFolder {
 impl SureFolder {
     /// No files.
     pub fn new(alloc: Global) -> SureFolder
-        ensures { ⟦<SureFolder as Folder>⟧.state result ≡ record { files = Some no_files; given = None; read_faults = 0; absences = 0 } }
+        ensures { ⟦<SureFolder as Folder>⟧.state result ≡ record { files = Some no_files; given = None; read_faults = 0; write_faults = 0; absences = 0 } }
     {
         SureFolder {
             alloc,
@@ -40,7 +40,7 @@ impl SureFolder {
 }
 
 impl Folder for SureFolder {
-    ghost state = { λ s. record { files = Some (files_in s.files); given = None; read_faults = 0; absences = s.absences } };
+    ghost state = { λ s. record { files = Some (files_in s.files); given = None; read_faults = 0; write_faults = 0; absences = s.absences } };
 
     fn read(&mut self, alloc: Global, name: &str, limit: u64) -> Result<Vec<u8>, ReadStop> {
         let Some(file) = look(&self.files, name) else {
@@ -54,5 +54,9 @@ impl Folder for SureFolder {
             Ok(bytes) => Ok(bytes),
             Err(_) => Err(ReadStop::NoMemory),
         }
+    }
+
+    fn write(&mut self, alloc: Global, name: &str, bytes: &[u8]) -> Result<(), WriteStop> {
+        put_file(alloc, &mut self.files, name, bytes).map_err(|_| WriteStop::NoMemory)
     }
 }

@@ -441,7 +441,7 @@ fn only(alloc: Global, call: u32) -> Result<Vec<u32>, Fail> {
 
 /// The same of `core a.core b.core`, where this call on the folder fails.
 fn answer_where_fails(alloc: Global, call: u32) -> Result<String, Fail> {
-    let mut folder = MemoryFolder::new(alloc, only(alloc, call)?);
+    let mut folder = MemoryFolder::new(alloc, only(alloc, call)?, Vec::new(alloc));
     folder.add("a.core", IDENTITY.as_bytes())?;
     folder.add("b.core", IDENTITY.as_bytes())?;
     run(alloc, "core a.core b.core", &mut folder)

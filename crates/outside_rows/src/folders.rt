@@ -1,6 +1,7 @@
 //! Each implementation once, and each fault.
 use cdle_folder::{
-    DirFolder, Folder, MemoryFolder, MemorySink, ReadStop, Sink, StdSink, SureFolder,
+    ChangeRead, DirFolder, Folder, MemoryFolder, MemorySink, ReadStop, Sink, StdSink, SureFolder,
+    WriteStop,
 };
 use std::alloc::Global;
 use std::fs;
@@ -32,11 +33,23 @@ fn assert_reads<F: Folder>(
     }
 }
 
+/// Each row has a name and bytes, and what a write of them answers.
+fn assert_writes<F: Folder>(
+    rt: &impl Abort,
+    alloc: Global,
+    folder: &mut F,
+    rows: &[(&str, &str, Result<(), WriteStop>)],
+) {
+    for (name, text, wanted) in rows {
+        assert!(rt; folder.write(alloc, name, text.as_bytes()) == *wanted);
+    }
+}
+
 #[test]
 fn memory(rt: HostRuntime) {
     let alloc = rt.alloc();
     let fail = [1u32].to_vec(alloc).expect(&rt, "room");
-    let mut folder = MemoryFolder::new(alloc, fail);
+    let mut folder = MemoryFolder::new(alloc, fail, Vec::new(alloc));
     folder.add("a", b"abc").expect(&rt, "room");
     let rows = [
         ("a", 3, Ok(b"abc".as_slice())),
@@ -49,6 +62,87 @@ fn memory(rt: HostRuntime) {
     assert!(rt; reads(alloc, &mut folder, "a", 2, Ok(b"xy")));
 }
 
+/// Whether these bytes stand under that name, or nothing.
+fn stands(folder: &MemoryFolder, name: &str, wanted: Option<&[u8]>) -> bool {
+    match folder.file(name) {
+        Some(file) => wanted == Some(file.as_slice()),
+        None => wanted.is_none(),
+    }
+}
+
+/// Whether the read of that number gave these bytes of that file.
+fn gave(folder: &MemoryFolder, number: usize, name: &str, bytes: &[u8]) -> bool {
+    match folder.given(number) {
+        Some((found, given)) => found == name && given == bytes,
+        None => false,
+    }
+}
+
+#[test]
+fn memory_written(rt: HostRuntime) {
+    let alloc = rt.alloc();
+    let fail = [3u32].to_vec(alloc).expect(&rt, "room");
+    let mut folder = MemoryFolder::new(alloc, fail, Vec::new(alloc));
+    folder.add("b", b"old").expect(&rt, "room");
+    let rows = [("a", "abc", Ok(())), ("a", "x", Ok(()))];
+    assert_writes(&rt, alloc, &mut folder, &rows);
+    let rows = [("a", 3, Ok(b"x".as_slice()))];
+    assert_reads(&rt, alloc, &mut folder, &rows);
+    let rows = [("a", "yz", Err(WriteStop::Failed)), ("c", "", Ok(()))];
+    assert_writes(&rt, alloc, &mut folder, &rows);
+    let rows = [
+        ("a", 3, Ok(b"x".as_slice())),
+        ("b", 3, Ok(b"old".as_slice())),
+        ("c", 0, Ok(b"".as_slice())),
+        ("d", 3, Err(ReadStop::Absent)),
+    ];
+    assert_reads(&rt, alloc, &mut folder, &rows);
+    assert!(rt; stands(&folder, "a", Some(b"x".as_slice())));
+    assert!(rt; stands(&folder, "d", None));
+}
+
+/// Four changes of the second call: of its first byte twice, of one behind its last, and of its last.
+const CHANGES: [ChangeRead; 4] = [
+    ChangeRead {
+        call: 1,
+        at: 0,
+        byte: b'x',
+    },
+    ChangeRead {
+        call: 1,
+        at: 3,
+        byte: b'y',
+    },
+    ChangeRead {
+        call: 1,
+        at: 0,
+        byte: b'z',
+    },
+    ChangeRead {
+        call: 1,
+        at: 2,
+        byte: b'w',
+    },
+];
+
+#[test]
+fn memory_altered(rt: HostRuntime) {
+    let alloc = rt.alloc();
+    let change = CHANGES.to_vec(alloc).expect(&rt, "room");
+    let mut folder = MemoryFolder::new(alloc, Vec::new(alloc), change);
+    let rows = [("a", "abc", Ok(()))];
+    assert_writes(&rt, alloc, &mut folder, &rows);
+    let rows = [
+        ("a", 3, Ok(b"zbw".as_slice())),
+        ("a", 3, Ok(b"abc".as_slice())),
+    ];
+    assert_reads(&rt, alloc, &mut folder, &rows);
+    assert!(rt; stands(&folder, "a", Some(b"abc".as_slice())));
+    assert!(rt; gave(&folder, 0, "a", b"zbw"));
+    assert!(rt; gave(&folder, 1, "a", b"abc"));
+    assert!(rt; folder.given(2).is_none());
+}
+
 #[test]
 fn sure(rt: HostRuntime) {
     let alloc = rt.alloc();
@@ -58,6 +152,13 @@ fn sure(rt: HostRuntime) {
         ("a", 3, Ok(b"abc".as_slice())),
         ("a", 2, Err(ReadStop::TooLong)),
         ("b", 3, Err(ReadStop::Absent)),
+    ];
+    assert_reads(&rt, rt.alloc(), &mut folder, &rows);
+    let rows = [("a", "x", Ok(())), ("b", "yz", Ok(()))];
+    assert_writes(&rt, rt.alloc(), &mut folder, &rows);
+    let rows = [
+        ("a", 3, Ok(b"x".as_slice())),
+        ("b", 3, Ok(b"yz".as_slice())),
     ];
     assert_reads(&rt, rt.alloc(), &mut folder, &rows);
 }
@@ -75,7 +176,9 @@ fn sink(rt: HostRuntime) {
     let fail = [1u32].to_vec(alloc).expect(&rt, "room");
     let mut sink = MemorySink::new(alloc, fail, 5).expect(&rt, "room");
     let rows = [("abc", true), ("d", false), ("efg", false), ("hi", true)];
+    assert!(rt; sink.puts() == 0);
     assert_puts(&rt, &mut sink, &rows);
+    assert!(rt; sink.puts() == 4);
     assert!(rt; sink.bytes() == b"abchi".as_slice());
 }
 
@@ -83,7 +186,14 @@ fn sink(rt: HostRuntime) {
 fn real(rt: HostRuntime) {
     let dir = String::from_str(rt.alloc(), ".").expect(&rt, "room");
     let mut folder = DirFolder::new(&rt, dir);
-    fs::write(&rt, "file_of_test", b"abc").expect(&rt, "written");
+    let rows = [
+        ("file_of_test", "abcdef", Ok(())),
+        ("file_of_test", "abc", Ok(())),
+        ("file_of_test/b", "abc", Err(WriteStop::Failed)),
+        ("no_folder/b", "abc", Err(WriteStop::Failed)),
+        (".", "abc", Err(WriteStop::Failed)),
+    ];
+    assert_writes(&rt, rt.alloc(), &mut folder, &rows);
     let rows = [
         ("file_of_test", 3, Ok(b"abc".as_slice())),
         ("file_of_test", 2, Err(ReadStop::TooLong)),

@@ -39,6 +39,7 @@ loop-file-preserved g c =
     let after : FolderState = g.F.Folder.state c.add.new.folder in
     record {
       files = c.in_ok-add.ensures.files ∙ inv.files;
+      write_faults = c.in_ok-add.ensures.write_faults ∙ inv.write_faults;
       read_faults = omega (arith, c.in_ok-add.ensures.read_faults, inv.read_faults);
       absences = omega (arith, c.in_ok-add.ensures.absences, inv.absences);
       in_step = c.in_ok-add.ensures.in_step;

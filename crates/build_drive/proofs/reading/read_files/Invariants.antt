@@ -8,6 +8,7 @@ use Rattle.build_drive.proofs.reading.read_files.Given as goal
 abbrev pub invariant-loop-file : goal.invariant-loop-file
 invariant-loop-file g l = record {
   files : (g.F.Folder.state l.folder).files ≡ (g.F.Folder.state l.fn.folder).files;
+  write_faults : (g.F.Folder.state l.folder).write_faults ≡ (g.F.Folder.state l.fn.folder).write_faults;
   read_faults : (g.F.Folder.state l.fn.folder).read_faults ≤ (g.F.Folder.state l.folder).read_faults;
   absences : (g.F.Folder.state l.fn.folder).absences ≤ (g.F.Folder.state l.folder).absences;
   in_step : IsInStep l.reading;
