@@ -12,3 +12,12 @@ pub mod Items
 pub mod Together
 pub mod KnownNames
 pub mod NoDots
+pub mod RenamedValues
+pub mod NamedWanted
+pub mod NamedMade
+pub mod NamedRows
+pub mod ReadAnew
+pub mod RenamedTwice
+pub mod ReadByText
+pub mod SourceFiles
+pub mod OneTable

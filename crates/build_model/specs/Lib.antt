@@ -1,3 +1,5 @@
 pub mod Unbuilt
 pub mod Renamed
 pub mod ModuleNames
+pub mod ByText
+pub mod SourceFiles
