@@ -1,0 +1,9 @@
+pub mod Steps
+pub mod Bodies
+pub mod Asked
+pub mod Taking
+pub mod Brought
+pub mod Endings
+pub mod Looked
+pub mod KindsRead
+pub mod Closing

@@ -1,0 +1,9 @@
+pub mod Places
+pub mod Answers
+pub mod Contexts
+pub mod Spines
+pub mod Arguments
+pub mod Parts
+pub mod Endings
+pub mod TypeProducts
+pub mod Equations
