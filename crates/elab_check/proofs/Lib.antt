@@ -1,0 +1,4 @@
+pub mod Stacked
+pub mod Chains
+pub mod Formed
+pub mod Told

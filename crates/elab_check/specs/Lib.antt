@@ -1,0 +1,4 @@
+pub mod Forms
+pub mod Answers
+pub mod Contexts
+pub mod Items
