@@ -1,0 +1,5 @@
+pub mod KnownMore
+pub mod Following
+pub mod Parts
+pub mod Standing
+pub mod Stands
