@@ -1,0 +1,3 @@
+pub mod ModuleAnswers
+pub mod Built
+pub mod Answers
