@@ -9,10 +9,11 @@ use Rattle.cdle_model.specs.declared.grammar.Count.TheVariants.{Bytes as OfBytes
 use Rattle.build_drive.specs.Answers.{IsEnd, IsOutcome, most_items, item_names}
 use Rattle.build_drive.specs.Calls.{IsCall}
 use Rattle.build_drive.specs.Checks.{IsVerdictAtBudget, IsVerdictAtSomeBudget}
-use Rattle.build_drive.specs.Traces.{IsFaultlessTrace, IsTrace, Trace, FolderChange, absent, contents, no_more, ending, most_bytes, too_long, unread}
-use Rattle.build_drive.specs.declared.done.Done.{Done}
-use Rattle.build_drive.specs.declared.outcome.Outcome.{Outcome}
-use Rattle.build_drive.specs.declared.outcome.Outcome.TheVariants as outcome
+use Rattle.build_drive.specs.Traces.{IsFaultlessTrace, IsTrace, Trace, absent, contents, no_more, ending, too_long, unread}
+use Rattle.build_outcome.specs.Changes.{FolderChange, most_bytes}
+use Rattle.build_outcome.specs.declared.done.Done.{Done}
+use Rattle.build_outcome.specs.declared.outcome.Outcome.{Outcome}
+use Rattle.build_outcome.specs.declared.outcome.Outcome.TheVariants as outcome
 use Rattle.build_drive.proofs.Ends.{no_end, one_end, same_items}
 use Rattle.build_drive.proofs.Items.{names-length}
 use Rattle.build_drive.proofs.Verdicts.{one-verdict}

@@ -15,10 +15,10 @@ use Rattle.cdle_model.specs.declared.grammar.Count.TheVariants.{Nesting, Items}
 use Rattle.cdle_model.proofs.CoreAgain.{one_file}
 use Rattle.cdle_model.proofs.CoreRuns.{file_runs}
 use Rattle.build_drive.specs.Answers.{IsEnd, IsMalformed, most_items}
-use Rattle.build_drive.specs.declared.outcome.Badness.{Badness}
-use Rattle.build_drive.specs.declared.outcome.Badness.TheVariants as bad
-use Rattle.build_drive.specs.declared.outcome.Outcome.{Outcome}
-use Rattle.build_drive.specs.declared.outcome.Outcome.TheVariants as outcome
+use Rattle.build_outcome.specs.declared.outcome.Badness.{Badness}
+use Rattle.build_outcome.specs.declared.outcome.Badness.TheVariants as bad
+use Rattle.build_outcome.specs.declared.outcome.Outcome.{Outcome}
+use Rattle.build_outcome.specs.declared.outcome.Outcome.TheVariants as outcome
 
 -- ---- the outcome of a fault, as a function
 

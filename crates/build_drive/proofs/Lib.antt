@@ -1,4 +1,3 @@
-pub mod Texts
 pub mod Items
 pub mod Numbers
 pub mod Verdicts

@@ -19,10 +19,11 @@ use Rattle.cdle_model.proofs.CoreWhole.{said_or_faulty}
 use Rattle.build_drive.specs.Answers.{IsEnd, IsOutcome, item_names, most_items}
 use Rattle.build_drive.specs.Calls.{AreReadable}
 use Rattle.build_drive.specs.Checks.{IsVerdictAtBudget, IsVerdictAtSomeBudget}
-use Rattle.build_drive.specs.Traces.{IsFaultlessTrace, Trace, absent, contents, ending, most_bytes, no_more, too_long, unread}
-use Rattle.build_drive.specs.declared.outcome.Badness.TheVariants as bad
-use Rattle.build_drive.specs.declared.outcome.Outcome.{Outcome}
-use Rattle.build_drive.specs.declared.outcome.Outcome.TheVariants as outcome
+use Rattle.build_drive.specs.Traces.{IsFaultlessTrace, Trace, absent, contents, ending, no_more, too_long, unread}
+use Rattle.build_outcome.specs.Changes.{most_bytes}
+use Rattle.build_outcome.specs.declared.outcome.Badness.TheVariants as bad
+use Rattle.build_outcome.specs.declared.outcome.Outcome.{Outcome}
+use Rattle.build_outcome.specs.declared.outcome.Outcome.TheVariants as outcome
 use Rattle.build_drive.proofs.Calls.{longer_some, not_ending, none_some, one, same_bytes}
 use Rattle.build_drive.proofs.Ends.{same_items}
 use Rattle.build_drive.proofs.Items.{names-length, over-append, said-over}

@@ -12,13 +12,15 @@ use Rattle.cdle_model.specs.Forms.{Written}
 use Rattle.core_check.specs.Items.{items_of}
 use Rattle.core_text.specs.Scope.{known_names}
 use Rattle.build_drive.specs.Answers.{IsOutcome, IsStopped, most_items, item_names}
-use Rattle.build_drive.specs.Calls.{IsReported, IsTraced}
-use Rattle.build_drive.specs.Traces.{IsTrace, Trace, FolderChange, absent, contents, no_more, ending, most_bytes, too_long, unread}
+use Rattle.build_drive.specs.Calls.{IsTraced}
+use Rattle.build_outcome.specs.Reports.{IsReported}
+use Rattle.build_drive.specs.Traces.{IsTrace, Trace, absent, contents, no_more, ending, too_long, unread}
+use Rattle.build_outcome.specs.Changes.{FolderChange, most_bytes}
 use Rattle.build_drive.specs.Progress.{EndsAt, EndsEarly, EndsIn, HasCome, IsInStep, trace_of_stop}
-use Rattle.build_drive.specs.declared.done.Done.{Done}
-use Rattle.build_drive.specs.declared.done.Stop.{Stop}
-use Rattle.build_drive.specs.declared.done.Stop.TheVariants as stops
-use Rattle.build_drive.specs.declared.outcome.Outcome.{Outcome}
+use Rattle.build_outcome.specs.declared.done.Done.{Done}
+use Rattle.build_outcome.specs.declared.done.Stop.{Stop}
+use Rattle.build_outcome.specs.declared.done.Stop.TheVariants as stops
+use Rattle.build_outcome.specs.declared.outcome.Outcome.{Outcome}
 use Rattle.build_drive.specs.declared.reading.Reading.{Reading}
 use Rattle.build_drive.proofs.Items.{names-append, names-length, over-append, said-over}
 
@@ -49,7 +51,7 @@ pub record IsUnread (v : FolderChange) (file : Bytes) (stop : ReadStop) : Type 0
   pub longer : stop ≡ reads.TooLong → IfSome v.before.files (λ f. IsLonger most_bytes (f file))
 
 -- the file was not read
-pub unread_at : (v : FolderChange) (file : Bytes) (known : List Name) (stop : ReadStop) (d : Done) (o : Outcome) → IsUnread v file stop → d.outcome ≡ o → IsReported [] d
+pub unread_at : (v : FolderChange) (file : Bytes) (known : List Name) (stop : ReadStop) (d : Done) (o : Outcome) → IsUnread v file stop → d.outcome ≡ o → IsReported None [] d
     → MatchOption (trace_of_stop file stop) ⊥ (λ s. IsStopped known s o) → EndsAt v file known (stops.Ended d)
 unread_at v file known reads.Failed d o k e report h = (unread file, (refl, k.given, k.failed refl), subst (IsStopped known (unread file)) (sym e) h, report)
 unread_at v file known reads.Absent d o k e report h = (absent file, (refl, k.given, k.absent refl, k.not_there refl), subst (IsStopped known (absent file)) (sym e) h, report)
@@ -101,7 +103,7 @@ ends_early Verdict u v files es known file more stops.NoMemory t e come h = tt
 ends_early Verdict u v files es known file more (stops.Ended d) t e come h =
     let x : IsStopped (item_names es) h.0 d.outcome = subst (λ (k : List Name). IsStopped k h.0 d.outcome) e h.2 in
     let all = come h.0 d.outcome (wider u v file more h.0 known d.outcome t h.2 h.1) (stopped Verdict es h.0 d.outcome x) in
-    (all.0, all.1, all.2, subst (λ (text : Bytes). IsReported text d) (sym all.3) h.3)
+    (all.0, all.1, all.2, subst (λ (text : Bytes). IsReported None text d) (sym all.3) h.3)
 
 -- one more file was read
 pub has_come : (Verdict : List Written → Outcome → Type 0) (v : FolderChange) (files : List Bytes) (es ws : List Written) (known : List Name) (file : Bytes) (more : List Bytes)
@@ -115,8 +117,8 @@ has_come Verdict v files es ws known file more told given after same e come h =
     (ws, subst (λ (k : List Name). Says h.0 k ws) e h.4, few, x)
 
 -- all files were read, and the check has this outcome
-pub is_traced : (Verdict : List Written → Outcome → Type 0) (v : FolderChange) (files : List Bytes) (es : List Written) (d : Done) → HasCome Verdict v files v.after.given es [] → Verdict es d.outcome → IsReported [] d → IsTraced Verdict v files d
-is_traced Verdict v files es d come x report = let all = come no_more d.outcome refl x in (all.0, all.1, all.2, subst (λ (text : Bytes). IsReported text d) (sym all.3) report)
+pub is_traced : (Verdict : List Written → Outcome → Type 0) (v : FolderChange) (files : List Bytes) (es : List Written) (d : Done) → HasCome Verdict v files v.after.given es [] → Verdict es d.outcome → IsReported None [] d → IsTraced Verdict v files d
+is_traced Verdict v files es d come x report = let all = come no_more d.outcome refl x in (all.0, all.1, all.2, subst (λ (text : Bytes). IsReported None text d) (sym all.3) report)
 
 -- the work ended before the check
 pub ended_traced : (Verdict : List Written → Outcome → Type 0) (v : FolderChange) (files : List Bytes) (stop : Stop) (d : Done) → stop ≡ stops.Ended d → EndsEarly Verdict v files stop → IsTraced Verdict v files d

@@ -14,13 +14,14 @@ use Rattle.cdle_model.proofs.Undecided.{undecided-spent}
 use Rattle.build_drive.specs.Answers.{IsOutcome, IsStopped, item_names}
 use Rattle.build_drive.specs.Calls.{AreAccepted, AreRead, AreRefused, AreReadable, AreUndecided, IsCall}
 use Rattle.build_drive.specs.Checks.{AreNotDerivedUpTo, IsVerdictAtBudget, IsSpot, IsVerdictAtSomeBudget, MatchesVerdict}
-use Rattle.build_drive.specs.Traces.{IsFaultlessTrace, IsTrace, Trace, FolderChange, absent, contents, no_more, ending, too_long, unread}
-use Rattle.build_drive.specs.declared.done.Done.{Done}
-use Rattle.build_drive.specs.declared.outcome.Outcome.{Outcome}
-use Rattle.build_drive.specs.declared.outcome.Outcome.TheVariants as outcome
-use Rattle.build_drive.specs.declared.outcome.Reason.{Reason}
-use Rattle.build_drive.specs.declared.outcome.Reason.TheVariants.{Core, Duplicate}
-use Rattle.build_drive.specs.declared.outcome.Spot.{Spot}
+use Rattle.build_drive.specs.Traces.{IsFaultlessTrace, IsTrace, Trace, absent, contents, no_more, ending, too_long, unread}
+use Rattle.build_outcome.specs.Changes.{FolderChange}
+use Rattle.build_outcome.specs.declared.done.Done.{Done}
+use Rattle.build_outcome.specs.declared.outcome.Outcome.{Outcome}
+use Rattle.build_outcome.specs.declared.outcome.Outcome.TheVariants as outcome
+use Rattle.build_outcome.specs.declared.outcome.Reason.{Reason}
+use Rattle.build_outcome.specs.declared.outcome.Reason.TheVariants.{Core, Duplicate}
+use Rattle.build_outcome.specs.declared.outcome.Spot.{Spot}
 use Rattle.build_drive.proofs.Calls.{exact}
 use Rattle.build_drive.proofs.Items.{over-append, said-over}
 

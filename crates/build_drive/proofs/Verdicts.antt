@@ -24,11 +24,11 @@ use Rattle.core_tree.specs.declared.faults.Kept.TheVariants.{Whole, Deep}
 use Rattle.core_tree.specs.declared.faults.Why.{Why}
 use Rattle.core_tree.specs.declared.faults.Why.TheVariants as w
 use Rattle.build_drive.specs.Checks.{IsVerdictAtBudget, IsItemName, IsVerdictAtSomeBudget, MatchesVerdict}
-use Rattle.build_drive.specs.declared.outcome.Outcome.{Outcome}
-use Rattle.build_drive.specs.declared.outcome.Outcome.TheVariants as outcome
-use Rattle.build_drive.specs.declared.outcome.Reason.TheVariants.{Core, Duplicate}
-use Rattle.build_drive.specs.declared.outcome.Spot.{Spot}
-use Rattle.build_drive.specs.declared.outcome.Spot.TheVariants.{CoreSpot}
+use Rattle.build_outcome.specs.declared.outcome.Outcome.{Outcome}
+use Rattle.build_outcome.specs.declared.outcome.Outcome.TheVariants as outcome
+use Rattle.build_outcome.specs.declared.outcome.Reason.TheVariants.{Core, Duplicate}
+use Rattle.build_outcome.specs.declared.outcome.Spot.{Spot}
+use Rattle.build_outcome.specs.declared.outcome.Spot.TheVariants.{CoreSpot}
 use Rattle.build_drive.proofs.Numbers.{duplicate-within, ends-within, refused-within}
 
 -- ---- from a fault to its outcome

@@ -12,10 +12,10 @@ use Rattle.cdle_model.specs.Report.{wanted_word}
 use Rattle.cdle_model.specs.declared.grammar.CoreWanted.{CoreWanted}
 use Rattle.cdle_model.specs.declared.grammar.Count.TheVariants.{Bytes as OfBytes, Nesting, Items}
 use Rattle.build_drive.specs.Traces.{Trace, no_more, absent, too_long, unread, ending, contents}
-use Rattle.build_drive.specs.declared.outcome.Badness.{Badness}
-use Rattle.build_drive.specs.declared.outcome.Badness.TheVariants as bad
-use Rattle.build_drive.specs.declared.outcome.Outcome.{Outcome}
-use Rattle.build_drive.specs.declared.outcome.Outcome.TheVariants as outcome
+use Rattle.build_outcome.specs.declared.outcome.Badness.{Badness}
+use Rattle.build_outcome.specs.declared.outcome.Badness.TheVariants as bad
+use Rattle.build_outcome.specs.declared.outcome.Outcome.{Outcome}
+use Rattle.build_outcome.specs.declared.outcome.Outcome.TheVariants as outcome
 
 -- the names of these items, the latest first
 abbrev pub item_names : List Written → List Name

@@ -1,26 +1,23 @@
 -- The whole of a call of `core`.
-use Rattle.std.specs.Prelude.{◌≡◌, ◌⊎◌, ◌+◌, ◌≤◌, ◌++◌, ℕ, List, [], ◌∷◌, Option, Some, IfSome, length}
+use Rattle.std.specs.Prelude.{◌≡◌, ◌⊎◌, ◌+◌, ◌≤◌, ◌++◌, ℕ, List, [], ◌∷◌, Option, Some, None, IfSome, length}
 use Rattle.cdle_folder.specs.Files.{Bytes, Files, Reads, with_read}
 use Rattle.cdle_model.specs.Check.{IsUndecided, check_items, spends}
 use Rattle.cdle_model.specs.CoreText.{Says}
 use Rattle.cdle_model.specs.Derivation.{AreDerived}
 use Rattle.cdle_model.specs.Forms.{Written}
-use Rattle.build_drive.specs.Traces.{FolderChange, Trace, IsTrace, most_bytes, ending_text}
+use Rattle.build_drive.specs.Traces.{Trace, IsTrace, ending_text}
+use Rattle.build_outcome.specs.Changes.{FolderChange, most_bytes}
 use Rattle.build_drive.specs.Checks.{AreNotDerivedUpTo, IsSpot, IsVerdictAtSomeBudget}
 use Rattle.build_drive.specs.Answers.{IsOutcome, item_names, most_items}
-use Rattle.build_drive.specs.Reports.{report_of}
-use Rattle.build_drive.specs.declared.done.Done.{Done}
-use Rattle.build_drive.specs.declared.outcome.Outcome.{Outcome}
-use Rattle.build_drive.specs.declared.outcome.Outcome.TheVariants as outcome
-use Rattle.build_drive.specs.declared.outcome.Spot.{Spot}
-
--- the report is that of the outcome, over the text of the file at which the call ended
-abbrev pub IsReported : Bytes → Done → Type 0
-IsReported text d = d.report.items ≡ report_of text d.outcome
+use Rattle.build_outcome.specs.Reports.{IsReported}
+use Rattle.build_outcome.specs.declared.done.Done.{Done}
+use Rattle.build_outcome.specs.declared.outcome.Outcome.{Outcome}
+use Rattle.build_outcome.specs.declared.outcome.Outcome.TheVariants as outcome
+use Rattle.build_outcome.specs.declared.outcome.Spot.{Spot}
 
 -- the call has a trace over these files, and the outcome and the report are of it
 abbrev pub IsTraced : (List Written → Outcome → Type 0) → FolderChange → List Bytes → Done → Type 0
-IsTraced Verdict v files d = (s : Trace) × IsTrace v v.before.given files s × IsOutcome Verdict [] s d.outcome × IsReported (ending_text s) d
+IsTraced Verdict v files d = (s : Trace) × IsTrace v v.before.given files s × IsOutcome Verdict [] s d.outcome × IsReported None (ending_text s) d
 
 -- The end of a call on these files, with n units for each comparison and each head form. Memory may run out anywhere; then there is no report.
 abbrev pub IsCall : ℕ → FolderChange → List Bytes → Done → Type 0

@@ -9,11 +9,11 @@ use Rattle.cdle_model.specs.declared.grammar.Count.TheVariants.{Depth}
 use Rattle.core_rules.specs.Reasons.{IsWhy}
 use Rattle.core_tree.specs.declared.faults.CoreFault.{CoreFault}
 use Rattle.core_tree.specs.declared.faults.CoreFault.TheVariants as fault
-use Rattle.build_drive.specs.declared.outcome.Outcome.{Outcome}
-use Rattle.build_drive.specs.declared.outcome.Outcome.TheVariants as outcome
-use Rattle.build_drive.specs.declared.outcome.Reason.TheVariants.{Core, Duplicate}
-use Rattle.build_drive.specs.declared.outcome.Spot.{Spot}
-use Rattle.build_drive.specs.declared.outcome.Spot.TheVariants.{CoreSpot}
+use Rattle.build_outcome.specs.declared.outcome.Outcome.{Outcome}
+use Rattle.build_outcome.specs.declared.outcome.Outcome.TheVariants as outcome
+use Rattle.build_outcome.specs.declared.outcome.Reason.TheVariants.{Core, Duplicate}
+use Rattle.build_outcome.specs.declared.outcome.Spot.{Spot}
+use Rattle.build_outcome.specs.declared.outcome.Spot.TheVariants.{CoreSpot}
 
 -- the name of an item, by its number over all files
 abbrev pub IsItemName : List Written → ℕ → Bytes → Type 0

@@ -1,6 +1,9 @@
 pub mod Traces
 pub mod Checks
 pub mod Answers
-pub mod Reports
 pub mod Calls
 pub mod Progress
+pub mod BuildTraces
+pub mod BuildAnswers
+pub mod BuildProgress
+pub mod BuildCalls

@@ -9,12 +9,14 @@ use Rattle.cdle_model.specs.CoreText.{Says}
 use Rattle.cdle_model.specs.Forms.{Written}
 use Rattle.core_check.specs.Items.{items_of}
 use Rattle.core_text.specs.Scope.{known_names}
-use Rattle.build_drive.specs.Traces.{FolderChange, Trace, absent, too_long, unread, IsTrace, most_bytes, ending_text}
+use Rattle.build_drive.specs.Traces.{Trace, absent, too_long, unread, IsTrace, ending_text}
+use Rattle.build_outcome.specs.Changes.{FolderChange, most_bytes}
 use Rattle.build_drive.specs.Answers.{IsEnd, IsOutcome, IsStopped, most_items, item_names}
-use Rattle.build_drive.specs.Calls.{IsReported, IsTraced}
-use Rattle.build_drive.specs.declared.done.Stop.{Stop}
-use Rattle.build_drive.specs.declared.done.Stop.TheVariants as stops
-use Rattle.build_drive.specs.declared.outcome.Outcome.{Outcome}
+use Rattle.build_drive.specs.Calls.{IsTraced}
+use Rattle.build_outcome.specs.Reports.{IsReported}
+use Rattle.build_outcome.specs.declared.done.Stop.{Stop}
+use Rattle.build_outcome.specs.declared.done.Stop.TheVariants as stops
+use Rattle.build_outcome.specs.declared.outcome.Outcome.{Outcome}
 use Rattle.build_drive.specs.declared.reading.Reading.{Reading}
 
 -- the files that were read, the names that are known and the number speak of the same items, each over the earlier ones
@@ -39,12 +41,12 @@ IsRead v file known ws = (bytes : Bytes) × (v.after.given ≡ with_read file by
 -- the call ends with this at the file that came next, unless memory ran out
 abbrev pub EndsAt : FolderChange → Bytes → List Name → Stop → Type 0
 EndsAt v file known stops.NoMemory = Unit {0}
-EndsAt v file known (stops.Ended d) = (s : Trace) × IsTrace v v.before.given (file ∷ []) s × IsStopped known s d.outcome × IsReported (ending_text s) d
+EndsAt v file known (stops.Ended d) = (s : Trace) × IsTrace v v.before.given (file ∷ []) s × IsStopped known s d.outcome × IsReported None (ending_text s) d
 
 -- the call ends with this at these bytes of the file, unless memory ran out
 abbrev pub EndsIn : Bytes → Bytes → List Name → Stop → Type 0
 EndsIn file bytes known stops.NoMemory = Unit {0}
-EndsIn file bytes known (stops.Ended d) = IsEnd known file bytes d.outcome × IsReported bytes d
+EndsIn file bytes known (stops.Ended d) = IsEnd known file bytes d.outcome × IsReported None bytes d
 
 -- the call ends with this before the check, unless memory ran out
 abbrev pub EndsEarly : (List Written → Outcome → Type 0) → FolderChange → List Bytes → Stop → Type 0

@@ -2,12 +2,7 @@
 use Rattle.std.specs.Prelude.{◌≡◌, ◌≤◌, ℕ, List, [], ◌∷◌, Option, Some, None, IfSome, length}
 use Rattle.cdle_folder.specs.Causes.{Rose}
 use Rattle.cdle_folder.specs.Files.{Bytes, Files, Reads, IsLonger, with_read}
-use Rattle.cdle_folder.specs.States.{FolderState}
-
--- the folder before the call and after it
-pub record FolderChange : Type 0 where
-  pub before : FolderState
-  pub after : FolderState
+use Rattle.build_outcome.specs.Changes.{FolderChange, most_bytes}
 
 -- That there were no more files; or the next file, by its name, which was not there, or too long, or not read, or whose bytes ended the call;
 -- or the bytes of the next file, behind which the call went on, and the trace from there on.
@@ -18,10 +13,6 @@ pub data Trace : Type 0 where
   unread : Bytes → Trace
   ending : Bytes → Bytes → Trace
   contents : Bytes → Bytes → Trace → Trace
-
--- the most bytes of a file
-abbrev pub most_bytes : ℕ
-most_bytes = 1048576
 
 -- This is the trace of the call over these files, when its reads had given that much. What was read is what the folder has there, where it tells; a
 -- read that failed, or found nothing, was counted in this call; and the folder gave just the files that were read, and nothing after.

@@ -1,16 +1,15 @@
 //! The check of all items.
-ghost use Rattle.std.specs.Prelude.{◌<◌, ◌≤◌, [], IfOk, List, length};
+ghost use Rattle.std.specs.Prelude.{◌≡◌, ◌<◌, ◌≤◌, [], ℕ, IfOk, List, None, length};
+ghost use Rattle.build_outcome.specs.declared.outcome.Outcome.TheVariants as outcomes;
 ghost use Rattle.cdle_model.specs.Classes.{AreScoped};
 ghost use Rattle.cdle_model.specs.Forms.{Written};
 ghost use Rattle.core_check.specs.Answer.{IsFaultOf};
 ghost use Rattle.core_check.specs.Items.{items_of};
 ghost use Rattle.build_drive.specs.Answers.{most_items};
-ghost use Rattle.build_drive.specs.Calls.{IsReported};
 ghost use Rattle.build_drive.specs.Checks.{IsItemName, IsNameAt, IsVerdictAtSomeBudget};
-ghost use Rattle.build_drive.specs.Reports.{IsShown};
+ghost use Rattle.build_outcome.specs.Reports.{IsReported, IsShown};
 
-use crate::done::Done;
-use crate::outcome::{Outcome, Reason, Spot};
+use build_outcome::{Done, Outcome, Reason, Spot};
 use cdle_model::{Count, NoMemory, Text};
 use core_check::check_files;
 use core_tree::{CoreFault, CoreFile, Path};
@@ -21,7 +20,7 @@ pub(crate) fn checked(alloc: Global, files: &Vec<CoreFile>, budget: u64) -> Resu
     requires items { AreScoped (items_of files.now.items) }
     requires few { length (items_of files.now.items) ≤ most_items }
     ensures verdict { IfOk result (λ done. IsVerdictAtSomeBudget budget (items_of files.now.items) done.outcome) }
-    ensures report { IfOk result (IsReported []) }
+    ensures report { IfOk result (IsReported None []) }
 {
     let outcome = match check_files(alloc, files, budget) {
         Ok(checked) => Outcome::Ok {
@@ -30,11 +29,11 @@ pub(crate) fn checked(alloc: Global, files: &Vec<CoreFile>, budget: u64) -> Resu
         },
         Err(fault) => refused(alloc, files, budget, fault)?,
     };
-    Done::new(alloc, outcome, b"")
+    Done::new(alloc, None, outcome, b"")
 }
 
 /// The outcome of items that are not accepted.
-fn refused(
+pub(crate) fn refused(
     alloc: Global,
     files: &Vec<CoreFile>,
     budget: u64,
@@ -43,6 +42,7 @@ fn refused(
     requires items { AreScoped (items_of files.now.items) }
     requires fault { IsFaultOf budget (items_of files.now.items) fault }
     ensures verdict { IfOk result (IsVerdictAtSomeBudget budget (items_of files.now.items)) }
+    ensures stopped { IfOk result (λ outcome. (modules items : ℕ) → outcome ≡ outcomes.Ok modules items → ⊥) }
     ensures shown { IfOk result (IsShown []) }
 {
     match name_at(alloc, files, budget, &fault) {
@@ -76,6 +76,7 @@ fn name_at(
 /// The outcome of a fault in the item of that name.
 fn outcome_at(alloc: Global, item: Text, budget: u64, fault: CoreFault) -> Outcome
     ensures verdict { (ws : List Written) → AreScoped ws → IsFaultOf budget ws fault → IsNameAt ws fault item → IsVerdictAtSomeBudget budget ws result }
+    ensures stopped { (modules items : ℕ) → result ≡ outcomes.Ok modules items → ⊥ }
     ensures shown { IsShown [] result }
 {
     match fault {

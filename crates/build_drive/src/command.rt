@@ -9,13 +9,13 @@ ghost use Rattle.build_drive.specs.Calls.{AreAccepted, AreRefused, AreReadable, 
 ghost use Rattle.build_drive.specs.Checks.{IsVerdictAtBudget, IsVerdictAtSomeBudget};
 ghost use Rattle.build_drive.specs.Traces.{IsFaultlessTrace, Trace};
 ghost use Rattle.build_drive.specs.Progress.{EndsEarly};
-ghost use Rattle.build_drive.specs.declared.outcome.Outcome.{Outcome as OutcomeOf};
-ghost use Rattle.build_drive.specs.declared.outcome.Reason.{Reason as ReasonOf};
-ghost use Rattle.build_drive.specs.declared.outcome.Spot.{Spot as SpotOf};
-ghost use Rattle.build_drive.specs.declared.outcome.Outcome.TheVariants as outcomes;
+ghost use Rattle.build_outcome.specs.declared.outcome.Outcome.{Outcome as OutcomeOf};
+ghost use Rattle.build_outcome.specs.declared.outcome.Reason.{Reason as ReasonOf};
+ghost use Rattle.build_outcome.specs.declared.outcome.Spot.{Spot as SpotOf};
+ghost use Rattle.build_outcome.specs.declared.outcome.Outcome.TheVariants as outcomes;
 
 use crate::check::checked;
-use crate::done::{Done, Stop};
+use build_outcome::{Done, Stop};
 use crate::reading::read_files;
 use cdle_folder::Folder;
 use std::alloc::Global;

@@ -7,7 +7,7 @@ ghost use Rattle.build_drive.specs.Answers.{IsOutcome};
 ghost use Rattle.build_drive.specs.Calls.{AreReadable};
 ghost use Rattle.build_drive.specs.Checks.{IsVerdictAtBudget};
 ghost use Rattle.build_drive.specs.Traces.{IsFaultlessTrace, Trace};
-ghost use Rattle.build_drive.specs.declared.outcome.Outcome.{Outcome as OutcomeOf};
+ghost use Rattle.build_outcome.specs.declared.outcome.Outcome.{Outcome as OutcomeOf};
 
 /// Where nothing fails, any files have just one outcome with each budget; or what they say spends the plain check with it, and then they have none.
 pub fn one_outcome_where_nothing_fails()

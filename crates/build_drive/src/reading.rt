@@ -11,11 +11,10 @@ ghost use Rattle.core_text.specs.Scope.{known_names};
 ghost use Rattle.core_text.specs.View.{IsPlaced};
 ghost use Rattle.build_drive.specs.Answers.{IsEnd, IsStopped, most_items, item_names};
 ghost use Rattle.build_drive.specs.Checks.{IsVerdictAtSomeBudget};
-ghost use Rattle.build_drive.specs.Reports.{IsShown};
+ghost use Rattle.build_outcome.specs.Reports.{IsShown};
 ghost use Rattle.build_drive.specs.Progress.{EndsAt, EndsEarly, EndsIn, HasCome, IsInStep, IsRead, trace_of_stop};
 
-use crate::done::{Done, Stop};
-use crate::outcome::{Badness, Outcome};
+use build_outcome::{Badness, Done, Outcome, Stop};
 use cdle_folder::{Folder, ReadStop};
 use cdle_model::{CoreWanted, Count, NoMemory, Text};
 use core_text::{CoreScope, CoreTextFault, read_core, word_at};
@@ -110,7 +109,7 @@ fn read_file<F: Folder>(
         Ok(text) => items_of_text(alloc, file, &text, known, items),
         Err(stop) => {
             let outcome = unread(alloc, file, stop)?;
-            Err(Stop::Ended(Done::new(alloc, outcome, b"")?))
+            Err(Stop::Ended(Done::new(alloc, None, outcome, b"")?))
         }
     }
 }
@@ -150,11 +149,11 @@ fn items_of_text(
         Ok(_) => {
             let name = Text::new(alloc, file)?;
             let what = Count::Items;
-            Err(Stop::Ended(Done::new(alloc, Outcome::Limit { name, what }, text)?))
+            Err(Stop::Ended(Done::new(alloc, None, Outcome::Limit { name, what }, text)?))
         }
         Err(fault) => {
             let outcome = malformed(alloc, file, text, fault)?;
-            Err(Stop::Ended(Done::new(alloc, outcome, text)?))
+            Err(Stop::Ended(Done::new(alloc, None, outcome, text)?))
         }
     }
 }

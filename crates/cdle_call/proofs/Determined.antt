@@ -2,8 +2,8 @@
 use Rattle.std.proofs.Common.{◌≡◌, ◌∙◌, ◌⊎◌, inl, inr, [], Option, Some, None, refl, sym}
 use Rattle.cdle_folder.specs.Files.{Files}
 use Rattle.cdle_words.specs.Words.{Command, core}
-use Rattle.build_drive.specs.declared.outcome.Outcome.{Outcome}
-use Rattle.build_drive.specs.declared.outcome.Outcome.TheVariants as outcome
+use Rattle.build_outcome.specs.declared.outcome.Outcome.{Outcome}
+use Rattle.build_outcome.specs.declared.outcome.Outcome.TheVariants as outcome
 use Rattle.build_drive.proofs.OneOutcome.{not_spent, one_outcome, outcome_or_spent}
 use Rattle.cdle_call.specs.Work.{IsDetermined, IsSpentOver}
 

@@ -7,11 +7,11 @@ use Rattle.cdle_model.specs.Check.{accepts, check_items}
 use Rattle.cdle_model.specs.Forms.{Written}
 use Rattle.cdle_words.specs.Words.{Command, core}
 use Rattle.build_drive.specs.Calls.{AreReadable}
-use Rattle.build_drive.specs.Traces.{FolderChange}
-use Rattle.build_drive.specs.declared.outcome.Outcome.{Outcome}
-use Rattle.build_drive.specs.declared.outcome.Outcome.TheVariants as outcome
-use Rattle.build_drive.specs.declared.outcome.Reason.{Reason}
-use Rattle.build_drive.specs.declared.outcome.Spot.{Spot}
+use Rattle.build_outcome.specs.Changes.{FolderChange}
+use Rattle.build_outcome.specs.declared.outcome.Outcome.{Outcome}
+use Rattle.build_outcome.specs.declared.outcome.Outcome.TheVariants as outcome
+use Rattle.build_outcome.specs.declared.outcome.Reason.{Reason}
+use Rattle.build_outcome.specs.declared.outcome.Spot.{Spot}
 use Rattle.cdle_call.specs.Run.{Ends, IsRun, SinkChange}
 use Rattle.cdle_call.specs.Work.{IsAccepted, IsDetermined, IsRefused, IsSpent}
 use Rattle.cdle_call.proofs.Work.{accepted_work, complete_work, exact_work, no_command_work, refused_work, undecided_work, usage_work}

@@ -9,12 +9,13 @@ use Rattle.cdle_words.specs.Words.{Command, core}
 use Rattle.build_drive.specs.Answers.{IsOutcome}
 use Rattle.build_drive.specs.Calls.{AreReadable}
 use Rattle.build_drive.specs.Checks.{IsVerdictAtSomeBudget, MatchesVerdict}
-use Rattle.build_drive.specs.Traces.{Trace, FolderChange, absent, contents, no_more, ending, too_long, unread}
-use Rattle.build_drive.specs.declared.done.Done.{Done}
-use Rattle.build_drive.specs.declared.outcome.Outcome.{Outcome}
-use Rattle.build_drive.specs.declared.outcome.Outcome.TheVariants as outcome
-use Rattle.build_drive.specs.declared.outcome.Reason.{Reason}
-use Rattle.build_drive.specs.declared.outcome.Spot.{Spot}
+use Rattle.build_drive.specs.Traces.{Trace, absent, contents, no_more, ending, too_long, unread}
+use Rattle.build_outcome.specs.Changes.{FolderChange}
+use Rattle.build_outcome.specs.declared.done.Done.{Done}
+use Rattle.build_outcome.specs.declared.outcome.Outcome.{Outcome}
+use Rattle.build_outcome.specs.declared.outcome.Outcome.TheVariants as outcome
+use Rattle.build_outcome.specs.declared.outcome.Reason.{Reason}
+use Rattle.build_outcome.specs.declared.outcome.Spot.{Spot}
 use Rattle.build_drive.proofs.Calls as calls
 use Rattle.build_drive.proofs.Theorem as theorem
 use Rattle.cdle_call.specs.Work.{IsAccepted, IsDetermined, IsRefused, IsSpent, IsWork}

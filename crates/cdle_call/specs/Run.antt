@@ -5,10 +5,10 @@ use Rattle.cdle_folder.specs.Files.{Bytes, PutsPrefix, with_bytes}
 use Rattle.cdle_folder.specs.States.{SinkState}
 use Rattle.cdle_model.specs.Report.{out_of_memory_line}
 use Rattle.cdle_words.specs.Words.{Command}
-use Rattle.build_drive.specs.Traces.{FolderChange}
-use Rattle.build_drive.specs.declared.done.Done.{Done}
-use Rattle.build_drive.specs.declared.outcome.Outcome.{Outcome}
-use Rattle.build_drive.specs.declared.outcome.Outcome.TheVariants as outcome
+use Rattle.build_outcome.specs.Changes.{FolderChange}
+use Rattle.build_outcome.specs.declared.done.Done.{Done}
+use Rattle.build_outcome.specs.declared.outcome.Outcome.{Outcome}
+use Rattle.build_outcome.specs.declared.outcome.Outcome.TheVariants as outcome
 use Rattle.cdle_call.specs.Work.{IsWork}
 
 -- the sink before the call and after it

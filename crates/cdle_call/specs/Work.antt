@@ -5,13 +5,15 @@ use Rattle.cdle_model.specs.Check.{check_items, spends}
 use Rattle.cdle_model.specs.Forms.{Written}
 use Rattle.cdle_words.specs.Words.{Command, core}
 use Rattle.build_drive.specs.Answers.{IsOutcome}
-use Rattle.build_drive.specs.Calls.{AreAccepted, AreReadable, AreRefused, AreUndecided, IsCall, IsReported}
+use Rattle.build_drive.specs.Calls.{AreAccepted, AreReadable, AreRefused, AreUndecided, IsCall}
+use Rattle.build_outcome.specs.Reports.{IsReported}
 use Rattle.build_drive.specs.Checks.{IsVerdictAtBudget}
-use Rattle.build_drive.specs.Traces.{IsFaultlessTrace, Trace, FolderChange}
-use Rattle.build_drive.specs.declared.done.Done.{Done}
-use Rattle.build_drive.specs.declared.outcome.Outcome.{Outcome}
-use Rattle.build_drive.specs.declared.outcome.Outcome.TheVariants as outcome
-use Rattle.build_drive.specs.declared.outcome.Spot.{Spot}
+use Rattle.build_drive.specs.Traces.{IsFaultlessTrace, Trace}
+use Rattle.build_outcome.specs.Changes.{FolderChange}
+use Rattle.build_outcome.specs.declared.done.Done.{Done}
+use Rattle.build_outcome.specs.declared.outcome.Outcome.{Outcome}
+use Rattle.build_outcome.specs.declared.outcome.Outcome.TheVariants as outcome
+use Rattle.build_outcome.specs.declared.outcome.Spot.{Spot}
 
 -- memory ran out, and so there is no report
 abbrev pub IsWanting : Done → Type 0
@@ -19,7 +21,7 @@ IsWanting d = (d.outcome ≡ outcome.NoMemory) × (d.report.items ≡ [])
 
 -- where the words are no command, this is reported, and nothing is read
 abbrev pub IsUsage : FolderChange → Done → Type 0
-IsUsage v d = (d.outcome ≡ outcome.Usage) × IsReported [] d × (v.after.given ≡ v.before.given)
+IsUsage v d = (d.outcome ≡ outcome.Usage) × IsReported None [] d × (v.after.given ≡ v.before.given)
 
 -- the outcome of a call on this folder, by what the words ask for, and its report
 abbrev pub IsWork : Option Command → FolderChange → Done → Type 0

@@ -2,7 +2,7 @@
 ghost use Rattle.std.specs.Prelude.{◌≡◌, ◌⊎◌, List};
 ghost use Rattle.cdle_folder.specs.Files.{Bytes, Files};
 ghost use Rattle.cdle_words.specs.Words.{command_of};
-ghost use Rattle.build_drive.specs.declared.outcome.Outcome.{Outcome as OutcomeOf};
+ghost use Rattle.build_outcome.specs.declared.outcome.Outcome.{Outcome as OutcomeOf};
 ghost use Rattle.cdle_call.specs.Work.{IsDetermined, IsSpentOver};
 
 /// Any words and any files determine just one outcome; or the plain check with the words' budget is spent, and then they determine none.

@@ -5,12 +5,12 @@ ghost use Rattle.cdle_folder.specs.Files.{Bytes, Files};
 ghost use Rattle.cdle_model.specs.Check.{accepts, check_items};
 ghost use Rattle.cdle_model.specs.Forms.{Written};
 ghost use Rattle.cdle_words.specs.Words.{command_of, core};
-ghost use Rattle.build_drive.specs.Calls.{AreReadable, IsReported};
-ghost use Rattle.build_drive.specs.Reports.{status_of};
-ghost use Rattle.build_drive.specs.declared.outcome.Outcome.{Outcome as OutcomeOf};
-ghost use Rattle.build_drive.specs.declared.outcome.Outcome.TheVariants as outcomes;
-ghost use Rattle.build_drive.specs.declared.outcome.Reason.{Reason as ReasonOf};
-ghost use Rattle.build_drive.specs.declared.outcome.Spot.{Spot as SpotOf};
+ghost use Rattle.build_drive.specs.Calls.{AreReadable};
+ghost use Rattle.build_outcome.specs.Reports.{IsReported, status_of};
+ghost use Rattle.build_outcome.specs.declared.outcome.Outcome.{Outcome as OutcomeOf};
+ghost use Rattle.build_outcome.specs.declared.outcome.Outcome.TheVariants as outcomes;
+ghost use Rattle.build_outcome.specs.declared.outcome.Reason.{Reason as ReasonOf};
+ghost use Rattle.build_outcome.specs.declared.outcome.Spot.{Spot as SpotOf};
 ghost use Rattle.cdle_call.specs.Run.{Ends, IsRun, bytes_put};
 ghost use Rattle.cdle_call.specs.Work.{IsAccepted, IsDetermined, IsRefused, IsSpent, IsWanting, IsWork};
 
@@ -103,9 +103,9 @@ fn work<F: Folder>(alloc: Global, words: &Vec<String>, folder: &mut F) -> Done
 
 /// That the words are no command, reported where there is memory.
 fn usage(alloc: Global) -> Done
-    ensures { IsWanting result ⊎ (result.outcome ≡ outcomes.Usage) × IsReported [] result }
+    ensures { IsWanting result ⊎ (result.outcome ≡ outcomes.Usage) × IsReported None [] result }
 {
-    match Done::new(alloc, Outcome::Usage, b"") {
+    match Done::new(alloc, None, Outcome::Usage, b"") {
         Ok(done) => done,
         Err(_) => Done::no_memory(alloc),
     }

@@ -1,6 +1,6 @@
 use Rattle.std.proofs.Common.{inr}
 use Rattle.build_drive.specs.Checks.{IsVerdictAtSomeBudget}
-use Rattle.build_drive.specs.Traces.{FolderChange}
+use Rattle.build_outcome.specs.Changes.{FolderChange}
 use Rattle.build_drive.proofs.Calls.{exact}
 use Rattle.build_drive.proofs.Theorem.{accepted, complete, refused, undecided}
 use Rattle.build_drive.proofs.Progress.{ended_traced}

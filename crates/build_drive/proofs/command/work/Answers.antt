@@ -2,7 +2,7 @@ use Rattle.std.proofs.Common.{map, string_bytes}
 use Rattle.std.proofs.lemmas.Result.{err_from_is_err_and}
 use Rattle.core_check.specs.Items.{items_of}
 use Rattle.build_drive.specs.Checks.{IsVerdictAtSomeBudget}
-use Rattle.build_drive.specs.Traces.{FolderChange}
+use Rattle.build_outcome.specs.Changes.{FolderChange}
 use Rattle.build_drive.proofs.Progress.{is_traced}
 use Rattle.build_drive.proofs.command.work.Goals as goal
 

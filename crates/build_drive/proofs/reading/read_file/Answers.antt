@@ -2,7 +2,7 @@ use Rattle.std.proofs.Common.{◌≡◌, Err, ap}
 use Rattle.std.proofs.lemmas.Result.{IfErr-weaker}
 use Rattle.cdle_folder.specs.Files.{Bytes}
 use Rattle.core_text.specs.Scope.{known_names}
-use Rattle.build_drive.specs.Traces.{FolderChange}
+use Rattle.build_outcome.specs.Changes.{FolderChange}
 use Rattle.build_drive.proofs.Progress.{ended_in, unread_at}
 use Rattle.build_drive.proofs.reading.read_file.Goals as goal
 

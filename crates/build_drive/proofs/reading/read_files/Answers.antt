@@ -7,7 +7,7 @@ use Rattle.cdle_model.specs.Forms.{Written}
 use Rattle.core_check.specs.Items.{items_of}
 use Rattle.build_drive.specs.Answers.{item_names}
 use Rattle.build_drive.specs.Checks.{IsVerdictAtSomeBudget}
-use Rattle.build_drive.specs.Traces.{FolderChange}
+use Rattle.build_outcome.specs.Changes.{FolderChange}
 use Rattle.build_drive.specs.Progress.{HasCome}
 use Rattle.build_drive.proofs.Items.{drop-map-at}
 use Rattle.build_drive.proofs.Progress.{ends_early, has_come}

@@ -1,7 +1,7 @@
 use Rattle.std.proofs.Common.{◌≡◌, ◌≤◌, ℕ, drop, map, string_bytes}
 use Rattle.core_check.specs.Items.{items_of}
 use Rattle.build_drive.specs.Checks.{IsVerdictAtSomeBudget}
-use Rattle.build_drive.specs.Traces.{FolderChange}
+use Rattle.build_outcome.specs.Changes.{FolderChange}
 use Rattle.build_drive.specs.Progress.{HasCome, IsInStep}
 use Rattle.build_drive.proofs.reading.read_files.Given as goal
 

@@ -1,4 +1,4 @@
-use Rattle.build_drive.specs.Traces.{FolderChange}
+use Rattle.build_outcome.specs.Changes.{FolderChange}
 use Rattle.cdle_call.specs.Run.{SinkChange}
 use Rattle.cdle_call.proofs.Ends.{accepted_end, complete_end, exact_end, no_command_end, refused_end, undecided_end, usage_end}
 use Rattle.cdle_call.proofs.run.cdle_run.Goals as goal

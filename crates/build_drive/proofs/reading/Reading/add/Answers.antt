@@ -1,7 +1,7 @@
 use Rattle.std.proofs.Common.{◌≡◌, ◌∙◌, ◌+◌, ◌++◌, [], List, ap, arith, length, subst}
 use Rattle.cdle_model.specs.Forms.{Written}
 use Rattle.core_check.specs.Items.{items_of}
-use Rattle.build_drive.specs.Traces.{FolderChange}
+use Rattle.build_outcome.specs.Changes.{FolderChange}
 use Rattle.build_drive.specs.Progress.{IsRead}
 use Rattle.build_drive.specs.declared.reading.Reading.{Reading}
 use Rattle.build_drive.proofs.Items.{items-push, names-length}

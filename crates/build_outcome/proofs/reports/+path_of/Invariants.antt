@@ -1,5 +1,5 @@
 use Rattle.std.proofs.Common.{length}
-use Rattle.build_drive.proofs.reports.+path_of.Given as goal
+use Rattle.build_outcome.proofs.reports.+path_of.Given as goal
 
 abbrev pub decreases-path_of : goal.decreases-path_of
 decreases-path_of l = length l.numbers.now

@@ -1,9 +1,8 @@
 //! What a command comes to, with its report.
-ghost use Rattle.std.specs.Prelude.{◌≡◌, [], IfOk};
-ghost use Rattle.build_drive.specs.Reports.{IsShown};
-ghost use Rattle.build_drive.specs.Calls.{IsReported};
-ghost use Rattle.build_drive.specs.declared.done.Stop.TheVariants as stops;
-ghost use Rattle.build_drive.specs.declared.outcome.Outcome.TheVariants as outcomes;
+ghost use Rattle.std.specs.Prelude.{◌≡◌, [], IfOk, option_map};
+ghost use Rattle.build_outcome.specs.Reports.{IsReported, IsShown};
+ghost use Rattle.build_outcome.specs.declared.done.Stop.TheVariants as stops;
+ghost use Rattle.build_outcome.specs.declared.outcome.Outcome.TheVariants as outcomes;
 
 use crate::outcome::Outcome;
 use crate::reports::report;
@@ -18,13 +17,18 @@ pub struct Done {
 }
 
 impl Done {
-    /// This outcome, reported over the text of the file at which the call ended.
-    pub fn new(alloc: Global, outcome: Outcome, text: &[u8]) -> Result<Done, NoMemory>
+    /// This outcome of the job, which is `core` or the building of the module of that name, reported over the text of the file at which the call ended.
+    pub fn new(
+        alloc: Global,
+        job: Option<&str>,
+        outcome: Outcome,
+        text: &[u8],
+    ) -> Result<Done, NoMemory>
         requires { IsShown text.now outcome }
         ensures outcome { IfOk result (λ done. done.outcome ≡ outcome) }
-        ensures report { IfOk result (IsReported text.now) }
+        ensures report { IfOk result (IsReported (option_map (λ name. name.now) job) text.now) }
     {
-        match report(alloc, &outcome, text) {
+        match report(alloc, job, &outcome, text) {
             Ok(report) => Ok(Done {
                 outcome,
                 report: report.into_bytes(),
@@ -50,7 +54,7 @@ impl Done {
 
 /// Why a part of the work gives nothing.
 #[derive(Drop)]
-pub(crate) enum Stop {
+pub enum Stop {
     /// The command ends here.
     Ended(Done),
     /// Memory was wanted and not there.

@@ -1,5 +1,5 @@
-use Rattle.build_drive.proofs.Texts.{duplicate_text, refused_text}
-use Rattle.build_drive.proofs.reports.refusal.Goals as goal
+use Rattle.build_outcome.proofs.Texts.{duplicate_text, refused_text}
+use Rattle.build_outcome.proofs.reports.refusal.Goals as goal
 
 pub returns-in_ok-format-in-Core : goal.returns-in_ok-format-in-Core
 returns-in_ok-format-in-Core c =

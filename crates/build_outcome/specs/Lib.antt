@@ -1,0 +1,4 @@
+pub mod Changes
+pub mod Words
+pub mod Lines
+pub mod Reports

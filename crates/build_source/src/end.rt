@@ -1,0 +1,159 @@
+//! The outcome of a module's file that comes to no Core text.
+ghost use Rattle.std.specs.Prelude.{◌≡◌, ◌≤◌, IfOk, List, ℕ, Ok, length};
+ghost use Rattle.build_module.specs.Answers.{IsModuleFault, IsScopeFault, IsSourceFault};
+ghost use Rattle.build_module.specs.ModuleAnswers.{IsModuleAnswer, ModuleAnswer};
+ghost use Rattle.build_outcome.specs.Reports.{IsShown};
+ghost use Rattle.build_outcome.specs.declared.outcome.Outcome.TheVariants as outcomes;
+ghost use Rattle.build_outcome.specs.declared.outcome.Spot.TheVariants.{FileSpot};
+ghost use Rattle.build_source.specs.Ends.{IsEndOf, spelled_in};
+ghost use Rattle.cdle_folder.specs.Files.{Bytes};
+ghost use Rattle.scoped_tree.specs.Trees.{place};
+ghost use Rattle.source_model.specs.SurfaceTokens.{TextToken, lexed};
+
+use build_module::ModuleFault;
+use build_outcome::{Badness, Outcome, Reason, Spot, wanted_text};
+use cdle_model::{Count, NoMemory, Text};
+use cdle_names::Span;
+use std::alloc::Global;
+use surf_lex::lex;
+use surf_scope::ScopeFault;
+use surf_source::SourceFault;
+
+/// The outcome of a fault of the module's file with these bytes.
+pub(crate) fn end_of(
+    alloc: Global,
+    file: &str,
+    source: &[u8],
+    budget: u64,
+    fault: ModuleFault,
+) -> Result<Outcome, NoMemory>
+    ensures end { IfOk result (λ o. (a : ModuleAnswer) → IsModuleFault (λ b. b ≡ a) fault → IsEndOf budget file.now source.now a o) }
+    ensures shown { IfOk result (λ o. length source.now ≤ 1048576 → (name : Bytes) → IsModuleFault (IsModuleAnswer budget source.now name) fault → IsShown source.now o) }
+{
+    match fault {
+        ModuleFault::Source(fault) => source_fault(alloc, file, fault),
+        ModuleFault::ManyItems => past_limit(alloc, file, Count::Items),
+        ModuleFault::Scope(fault) => scope_fault(alloc, file, source, fault),
+        ModuleFault::NotBuilt { span } => refused_at(alloc, file, span, Reason::NotBuilt),
+        ModuleFault::Refused { span, code } => {
+            refused_at(alloc, file, span, Reason::Surface(code))
+        }
+        ModuleFault::Spent { span } => Ok(Outcome::Undecided {
+            place: spot(alloc, file, span)?,
+            budget,
+        }),
+        ModuleFault::TooDeep { item } => Ok(Outcome::Limit {
+            name: item,
+            what: Count::Depth,
+        }),
+        ModuleFault::NoMemory => Err(NoMemory),
+    }
+}
+
+/// That more than may be of this is in the file.
+fn past_limit(alloc: Global, file: &str, what: Count) -> Result<Outcome, NoMemory>
+    ensures { IfOk result (λ o. o ≡ outcomes.Limit file.now what) }
+{
+    Ok(Outcome::Limit {
+        name: Text::new(alloc, file)?,
+        what,
+    })
+}
+
+/// That what begins there in the file is refused.
+fn refused_at(alloc: Global, file: &str, span: Span, why: Reason) -> Result<Outcome, NoMemory>
+    ensures { IfOk result (λ o. o ≡ outcomes.Refused (FileSpot file.now span.from) why) }
+{
+    Ok(Outcome::Refused {
+        place: spot(alloc, file, span)?,
+        why,
+    })
+}
+
+/// Where the place begins in the file.
+fn spot(alloc: Global, file: &str, span: Span) -> Result<Spot, NoMemory>
+    ensures { IfOk result (λ s. s ≡ FileSpot file.now span.from) }
+{
+    Ok(Spot::FileSpot {
+        file: Text::new(alloc, file)?,
+        at: span.from,
+    })
+}
+
+/// The outcome of bytes that are no module.
+fn source_fault(alloc: Global, file: &str, fault: SourceFault) -> Result<Outcome, NoMemory>
+    ensures { IfOk result (λ o. (n : ℕ) (text : Bytes) (a : ModuleAnswer) → IsSourceFault (λ b. b ≡ a) fault → IsEndOf n file.now text a o) }
+{
+    let (at, what) = match fault {
+        SourceFault::NotUtf8 { at } => (at, Badness::NotUtf8),
+        SourceFault::BadCharacter { at } => (at, Badness::BadCharacter),
+        SourceFault::OpenComment { at } => (at, Badness::OpenComment),
+        SourceFault::Unexpected { at, wanted } => {
+            (at, Badness::Wanted(Text::new(alloc, wanted_text(wanted))?))
+        }
+        SourceFault::TooDeep { .. } => return past_limit(alloc, file, Count::Nesting),
+        SourceFault::TooMany { what, .. } => return past_limit(alloc, file, what),
+        SourceFault::NoMemory => return Err(NoMemory),
+    };
+    malformed(alloc, file, at, what)
+}
+
+/// That the file is malformed at that byte.
+fn malformed(alloc: Global, file: &str, at: u32, what: Badness) -> Result<Outcome, NoMemory>
+    ensures { IfOk result (λ o. o ≡ outcomes.Malformed file.now at what) }
+{
+    Ok(Outcome::Malformed {
+        file: Text::new(alloc, file)?,
+        at,
+        what,
+    })
+}
+
+/// The outcome of a fault of scope.
+fn scope_fault(
+    alloc: Global,
+    file: &str,
+    source: &[u8],
+    fault: ScopeFault,
+) -> Result<Outcome, NoMemory>
+    ensures { IfOk result (λ o. (n : ℕ) (a : ModuleAnswer) → IsScopeFault (λ b. b ≡ a) fault → IsEndOf n file.now source.now a o) }
+{
+    match fault {
+        ScopeFault::Unbound { span } => {
+            let name = name_in(alloc, source, span)?;
+            malformed(alloc, file, span.from, Badness::Unbound(name))
+        }
+        ScopeFault::WrongClass { span } => {
+            let name = name_in(alloc, source, span)?;
+            malformed(alloc, file, span.from, Badness::WrongClass(name))
+        }
+        ScopeFault::Twice { span } => {
+            let name = name_in(alloc, source, span)?;
+            malformed(alloc, file, span.from, Badness::Twice(name))
+        }
+        ScopeFault::NoMemory => Err(NoMemory),
+    }
+}
+
+/// The tokens of the text that stand in the place, one behind the other: a name, or two with `#` between them.
+fn name_in(alloc: Global, source: &[u8], span: Span) -> Result<Text, NoMemory>
+    requires { length source.now ≤ 1048576 }
+    ensures { IfOk result (λ name. (ts : List TextToken) → lexed source.now ≡ Ok ts → name ≡ spelled_in source.now (place span) ts) }
+{
+    // Never that it is no text or has no tokens: it is a module's.
+    let Ok(text) = std::str::from_utf8(source) else {
+        return Err(NoMemory);
+    };
+    let Ok(tokens) = lex(alloc, text) else {
+        return Err(NoMemory);
+    };
+    let mut name = String::new(alloc);
+    for token in &tokens {
+        if span.from <= token.span.from && token.span.to <= span.to {
+            let from = token.span.from as usize;
+            let to = token.span.to as usize;
+            name.push_str(&text[from..to])?;
+        }
+    }
+    Ok(Text::new(alloc, name.as_str())?)
+}
