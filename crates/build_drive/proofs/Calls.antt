@@ -31,7 +31,7 @@ there v given f files s told quiet h = absurd h
 
 -- ---- what a name has is one thing
 
-none_longer : {R : Type 0} (o : Option Bytes) → o ≡ None → IsLonger most_bytes o → R
+pub none_longer : {R : Type 0} (o : Option Bytes) → o ≡ None → IsLonger most_bytes o → R
 none_longer o e h = absurd (subst (IsLonger most_bytes) e h)
 
 pub none_some : {R : Type 0} (o : Option Bytes) (bytes : Bytes) → o ≡ None → o ≡ Some bytes → R

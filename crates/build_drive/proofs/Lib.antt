@@ -7,3 +7,9 @@ pub mod Progress
 pub mod Theorem
 pub mod WrongNames
 pub mod OneOutcome
+pub mod Writing
+pub mod Building
+pub mod Built
+pub mod BuildEnds
+pub mod BuildExact
+pub mod OneBuild

@@ -31,7 +31,7 @@ pub record IsTail (u v : FolderChange) : Type 0 where
   pub absences : v.before.absences ≤ u.before.absences
   pub after : u.after ≡ v.after
 
-rose : (a b c : ℕ) → b ≤ a → Rose a c → Rose b c
+pub rose : (a b c : ℕ) → b ≤ a → Rose a c → Rose b c
 rose a b c le h = omega (arith, le, h)
 
 -- ---- at one file

@@ -58,7 +58,7 @@ checked : (n : ℕ) (v : FolderChange) (files : List Bytes) (d : Done) (o : Outc
 checked n v files d o c (inl none) e = absurd (subst IsOfCheck (sym e ∙ none.0) c)
 checked n v files d o c (inr w) e = all-read (IsVerdictAtSomeBudget n) v v.before.given [] files w.0 o c w.1 (subst (IsOutcome (IsVerdictAtSomeBudget n) [] w.0) e w.2)
 
-accepted-told : (all : List Written) (v : ListVerdict) (modules items : ℕ) → MatchesVerdict all v (outcome.Ok modules items) → AreDerived all × (items ≡ length all)
+pub accepted-told : (all : List Written) (v : ListVerdict) (modules items : ℕ) → MatchesVerdict all v (outcome.Ok modules items) → AreDerived all × (items ≡ length all)
 accepted-told all accepts modules items h = (h.2, h.1)
 accepted-told all (ends i deep) modules items h = absurd h
 accepted-told all v modules items h = absurd h

@@ -2,7 +2,7 @@
 use Rattle.std.specs.Prelude.{◌≡◌, ◌≤◌, ◌<◌, ℕ, [], None, Some, length, option_map}
 use Rattle.cdle_folder.specs.Causes.{Rose}
 use Rattle.cdle_folder.specs.Files.{Bytes, Files, IsLonger, IsOtherwiseSame, with_file, with_read}
-use Rattle.build_source.specs.Files.{Unread, absent, too_long, IsThere, IsUnread, IsUntouched, core_file, source_file}
+use Rattle.build_source.specs.Files.{Unread, absent, too_long, failed, IsThere, IsUnread, IsUntouched, core_file, source_file}
 use Rattle.build_outcome.specs.Changes.{FolderChange, most_bytes}
 
 -- the most bytes of a Core file that is read back
@@ -42,14 +42,19 @@ IsBuildTrace v name (no_source u) = (v.after.given ≡ v.before.given) × IsUnre
 IsBuildTrace v name (ending source) = (v.after.given ≡ with_read (source_file name) source v.before.given) × IsThere v.before.files most_bytes (source_file name) source × IsUntouched v
 IsBuildTrace v name (given source text e) = IsThere v.before.files most_bytes (source_file name) source × IsCoreTrace (behind_read (source_file name) source v) (core_file name) text e
 
--- this is the trace of a call over these files, where nothing fails and what is written is read back
+-- a Core file with this text comes to this end, where nothing fails and what is written is read back
+abbrev pub IsFaultlessCore : Bytes → CoreEnd → Type 0
+IsFaultlessCore text (unread too_long) = most_core_bytes < length text
+IsFaultlessCore text (contents bytes) = (length text ≤ most_core_bytes) × (bytes ≡ text)
+IsFaultlessCore text e = ⊥
+
+-- likewise this is the trace of a call over these files
 abbrev pub IsFaultlessBuild : Files → Bytes → BuildTrace → Type 0
 IsFaultlessBuild f name (no_source absent) = f (source_file name) ≡ None
 IsFaultlessBuild f name (no_source too_long) = IsLonger most_bytes (f (source_file name))
+IsFaultlessBuild f name (no_source failed) = ⊥
 IsFaultlessBuild f name (ending source) = IsThere (Some f) most_bytes (source_file name) source
-IsFaultlessBuild f name (given source text (unread too_long)) = IsThere (Some f) most_bytes (source_file name) source × (most_core_bytes < length text)
-IsFaultlessBuild f name (given source text (contents bytes)) = IsThere (Some f) most_bytes (source_file name) source × (length text ≤ most_core_bytes) × (bytes ≡ text)
-IsFaultlessBuild f name t = ⊥
+IsFaultlessBuild f name (given source text e) = IsThere (Some f) most_bytes (source_file name) source × IsFaultlessCore text e
 
 -- the bytes of the module's file, where they ended the call
 abbrev pub ending_source : BuildTrace → Bytes

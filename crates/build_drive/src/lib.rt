@@ -16,4 +16,4 @@ mod written;
 pub use build::build;
 pub use build_outcome::{Badness, Done, Outcome, Reason, Spot};
 pub use command::core_command;
-pub use laws::one_outcome_where_nothing_fails;
+pub use laws::{one_outcome_of_build, one_outcome_where_nothing_fails};
