@@ -1,23 +1,24 @@
 -- The whole of a call of `build` on one module.
-use Rattle.std.specs.Prelude.{◌≡◌, ◌⊎◌, ◌≤◌, ℕ, List, [], Option, Some, IfSome, length, option_map}
+use Rattle.std.specs.Prelude.{◌≡◌, ◌⊎◌, ◌≤◌, ◌+◌, ℕ, List, [], Option, Some, IfSome, length, option_map}
 use Rattle.cdle_folder.specs.Causes.{Rose}
 use Rattle.cdle_folder.specs.Files.{Bytes, Files, IsOtherwiseSame, with_file, with_read}
-use Rattle.cdle_model.specs.Check.{accepts, check_items, spends}
+use Rattle.cdle_model.specs.Check.{IsUndecided, check_items, spends as spends_check}
 use Rattle.cdle_model.specs.Forms.{Written}
 use Rattle.build_module.specs.Built.{IsCoreOf}
-use Rattle.build_module.specs.ModuleAnswers.{ModuleAnswer, IsModuleAnswer, gives}
+use Rattle.build_module.specs.ModuleAnswers.{ModuleAnswer, IsModuleAnswer, gives, spends}
+use Rattle.source_model.specs.Source.{Span}
 use Rattle.build_outcome.specs.declared.done.Done.{Done}
 use Rattle.build_outcome.specs.declared.outcome.Outcome.{Outcome}
 use Rattle.build_outcome.specs.declared.outcome.Outcome.TheVariants as outcome
 use Rattle.build_outcome.specs.declared.outcome.Reason.{Reason}
 use Rattle.build_outcome.specs.declared.outcome.Spot.{Spot}
 use Rattle.build_outcome.specs.Changes.{FolderChange, most_bytes}
-use Rattle.build_source.specs.Ends.{Gives, IsEndOf}
+use Rattle.build_source.specs.Ends.{Gives, IsEndOf, IsSpotOf}
 use Rattle.build_source.specs.Files.{IsThere, core_file, source_file}
 use Rattle.build_drive.specs.BuildAnswers.{IsBuildOutcome}
 use Rattle.build_drive.specs.BuildProgress.{IsBuilding}
 use Rattle.build_drive.specs.BuildTraces.{BuildTrace, IsFaultlessBuild, most_core_bytes}
-use Rattle.build_drive.specs.Checks.{IsVerdictAtBudget}
+use Rattle.build_drive.specs.Checks.{IsSpot, IsVerdictAtBudget}
 
 -- The end of a call on the module of that name, with n units for each comparison and each head form. Memory may run out anywhere; then there is no report.
 abbrev pub IsBuildCall : ℕ → FolderChange → Bytes → Done → Type 0
@@ -50,6 +51,14 @@ abbrev pub IsRefusedSource : ℕ → FolderChange → Bytes → Spot → Reason 
 IsRefusedSource n v name place why = (source : Bytes) × IfSome v.before.files (λ f. f (source_file name) ≡ Some source) × (v.after.given ≡ with_read (source_file name) source v.before.given)
     × (a : ModuleAnswer) × IsModuleAnswer n source name a × IsEndOf n (source_file name) source a (outcome.Refused place why)
 
+-- Undecided there with n units: the module's file was read, and a question of the rules is spent there; or what is given was written and read back, the comparison
+-- or head form there is spent with n units, all before it pass with some number of them, and the plain check of all items with n units is spent, there or earlier.
+abbrev pub IsUndecidedModule : ℕ → FolderChange → Bytes → Spot → Type 0
+IsUndecidedModule n v name place = (source : Bytes) × IfSome v.before.files (λ f. f (source_file name) ≡ Some source)
+    × (((p : Span) × IsModuleAnswer n source name (spends p) × IsSpotOf (source_file name) p.from place)
+    ⊎ ((ws : List Written) × (text : Bytes) × IsModuleAnswer n source name (gives ws text) × (i : ℕ) × (path : List ℕ) × IsSpot ws i path place
+    × (k : ℕ) × IsUndecided n (n + k) ws i path × (j : ℕ) × (earlier : List ℕ) × (check_items n ws ≡ spends_check j earlier)))
+
 -- where nothing fails, the module's name and these files determine the outcome, the plain check of what is given with n units not being spent
 abbrev pub IsBuildDetermined : ℕ → Files → Bytes → Outcome → Type 0
 IsBuildDetermined n f name o = (t : BuildTrace) × IsFaultlessBuild f name t × IsBuildOutcome (IsVerdictAtBudget n) n name t o
@@ -57,4 +66,4 @@ IsBuildDetermined n f name o = (t : BuildTrace) × IsFaultlessBuild f name t × 
 -- the module's file is there and gives items whose plain check with n units is spent
 abbrev pub IsBuildSpent : ℕ → Files → Bytes → Type 0
 IsBuildSpent n f name = (source : Bytes) × (text : Bytes) × (ws : List Written) × IsThere (Some f) most_bytes (source_file name) source × IsModuleAnswer n source name (gives ws text)
-    × (length text ≤ most_core_bytes) × (i : ℕ) × (path : List ℕ) × (check_items n ws ≡ spends i path)
+    × (length text ≤ most_core_bytes) × (i : ℕ) × (path : List ℕ) × (check_items n ws ≡ spends_check i path)

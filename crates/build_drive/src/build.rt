@@ -9,7 +9,7 @@ ghost use Rattle.build_outcome.specs.declared.outcome.Outcome.{Outcome as Outcom
 ghost use Rattle.build_outcome.specs.declared.outcome.Reason.{Reason as ReasonOf};
 ghost use Rattle.build_outcome.specs.declared.outcome.Spot.{Spot as SpotOf};
 ghost use Rattle.build_outcome.specs.declared.outcome.Outcome.TheVariants as outcomes;
-ghost use Rattle.build_drive.specs.BuildCalls.{IsBuildCall, IsBuildDetermined, IsBuilt, IsLeft, IsRefusedSource};
+ghost use Rattle.build_drive.specs.BuildCalls.{IsBuildCall, IsBuildDetermined, IsBuilt, IsLeft, IsRefusedSource, IsUndecidedModule};
 ghost use Rattle.build_drive.specs.BuildProgress.{IfEnded, IsBuilding};
 ghost use Rattle.build_drive.specs.BuildTraces.{IsThere, most_core_bytes, source_file};
 ghost use Rattle.build_outcome.specs.Changes.{most_bytes};
@@ -32,6 +32,11 @@ pub fn build<F: Folder>(alloc: Global, name: &str, budget: u64, folder: &mut F) 
 
     // Refused: only what the rules refuse in the module's file, or what is not built, and Core's check never.
     ensures refused { (place : SpotOf) (why : ReasonOf) → result.outcome ≡ outcomes.Refused place why → IsRefusedSource budget (record { before = F.state folder.old; after = F.state folder.new }) name.now place why }
+
+    // Undecided: a question of the rules is spent there with this budget; or the check of the Core file is, and so is the plain check of its items, there or
+    // earlier.
+    ensures undecided { (place : SpotOf) (units : ℕ) → result.outcome ≡ outcomes.Undecided place units → (units ≡ budget)
+        × IsUndecidedModule budget (record { before = F.state folder.old; after = F.state folder.new }) name.now place }
 
     // Whatever the outcome, only the Core file may be written, with what the rules give.
     ensures files { IsLeft budget (record { before = F.state folder.old; after = F.state folder.new }) name.now }

@@ -4,17 +4,21 @@ ghost use Rattle.cdle_folder.specs.Causes.{Quiet, Rose, next_count};
 ghost use Rattle.cdle_folder.specs.Files.{Bytes, Files};
 ghost use Rattle.cdle_model.specs.Check.{accepts, check_items};
 ghost use Rattle.cdle_model.specs.Forms.{Written};
-ghost use Rattle.cdle_words.specs.Words.{command_of, core};
+ghost use Rattle.cdle_words.specs.Words.{build, command_of, core};
 ghost use Rattle.build_drive.specs.Calls.{AreReadable};
+ghost use Rattle.build_drive.specs.BuildTraces.{most_core_bytes};
+ghost use Rattle.build_module.specs.ModuleAnswers.{IsModuleAnswer, gives};
+ghost use Rattle.build_outcome.specs.Changes.{most_bytes};
 ghost use Rattle.build_outcome.specs.Reports.{IsReported, status_of};
+ghost use Rattle.build_source.specs.Files.{IsThere, source_file};
 ghost use Rattle.build_outcome.specs.declared.outcome.Outcome.{Outcome as OutcomeOf};
 ghost use Rattle.build_outcome.specs.declared.outcome.Outcome.TheVariants as outcomes;
 ghost use Rattle.build_outcome.specs.declared.outcome.Reason.{Reason as ReasonOf};
 ghost use Rattle.build_outcome.specs.declared.outcome.Spot.{Spot as SpotOf};
 ghost use Rattle.cdle_call.specs.Run.{Ends, IsRun, bytes_put};
-ghost use Rattle.cdle_call.specs.Work.{IsAccepted, IsDetermined, IsRefused, IsSpent, IsWanting, IsWork};
+ghost use Rattle.cdle_call.specs.Work.{IsAccepted, IsDetermined, IsQuiet, IsRefused, IsSpent, IsWanting, IsWork, LeavesFiles};
 
-use build_drive::{Done, Outcome, core_command};
+use build_drive::{Done, Outcome, build, core_command};
 use cdle_folder::{Folder, Sink};
 use cdle_words::{Asked, WordsFault, command_asked};
 use std::alloc::Global;
@@ -47,29 +51,32 @@ pub fn cdle_run<F: Folder, S: Sink>(
     ensures no_command { command_of (map string_bytes words.now.items) ≡ None → (result.outcome ≡ outcomes.Usage) ⊎ ((result.outcome ≡ outcomes.NoMemory)
         ⊎ (result.outcome ≡ outcomes.WriteFault None) × Rose (S.state out.old).faults (S.state out.new).faults) }
 
-    // Accepted: each file of the words is read to its end, in their order, and the list of all items has a derivation.
+    // Accepted by `core`: each file of the words is read to its end, in their order, and the list of all items has a derivation. Built by `build`: the module's
+    // Core file has what the rules give for its file; it says items with the names of the module's definitions in order, which erase to these and have a
+    // derivation; and just that was read back.
     ensures accepted { (modules items : ℕ) → result.outcome ≡ outcomes.Ok modules items → IsAccepted (command_of (map string_bytes words.now.items))
-        (record { before = F.state folder.old; after = F.state folder.new }) items }
+        (record { before = F.state folder.old; after = F.state folder.new }) modules items }
 
-    // Refused: likewise each file is read, and the items up to the one that is named have no derivation.
+    // Refused by `core`: likewise each file is read, and the items up to the one that is named have no derivation. Refused by `build`: only what the surface
+    // rules refuse in the module's file, or what is not built; Core's check never refuses what they give.
     ensures refused { (place : SpotOf) (why : ReasonOf) → result.outcome ≡ outcomes.Refused place why → IsRefused (command_of (map string_bytes words.now.items))
-        (record { before = F.state folder.old; after = F.state folder.new }) place }
+        (record { before = F.state folder.old; after = F.state folder.new }) place why }
 
-    // Undecided: likewise each file is read; the question at that place is spent with the words' budget, and so is the plain check of all items,
-    // there or earlier.
+    // Undecided: likewise each file is read; the question at that place is spent with the words' budget, and where it is one of Core's check so is the plain
+    // check of all items, there or earlier.
     ensures undecided { (place : SpotOf) (units : ℕ) → result.outcome ≡ outcomes.Undecided place units → IsSpent (command_of (map string_bytes words.now.items))
         (record { before = F.state folder.old; after = F.state folder.new }) place units }
 
-    // No file is written, and no write fails.
-    ensures files { (F.state folder.new).files ≡ (F.state folder.old).files }
-    ensures write_faults { (F.state folder.new).write_faults ≡ (F.state folder.old).write_faults }
+    // Without a command and by `core` no file is written, and no write fails; by `build` only the module's Core file may be written, with what the rules give.
+    ensures files { LeavesFiles (command_of (map string_bytes words.now.items)) (record { before = F.state folder.old; after = F.state folder.new }) }
 
     // Bytes are put just once, whatever the outcome.
     ensures puts { (S.state out.new).puts ≡ next_count (S.state out.old).puts }
 
     // Where the folder tells its files, and no fault of folder or sink is counted, there is one outcome, which the words and the files determine
     // where the plain check with the words' budget is not spent; only want of memory may be answered in its place.
-    ensures exact { (f : Files) (o : OutcomeOf) → (F.state folder.old).files ≡ Some f → Quiet (F.state folder.old).read_faults (F.state folder.new).read_faults
+    ensures exact { (f : Files) (o : OutcomeOf) → (F.state folder.old).files ≡ Some f
+        → IsQuiet (command_of (map string_bytes words.now.items)) (record { before = F.state folder.old; after = F.state folder.new })
         → Quiet (S.state out.old).faults (S.state out.new).faults → IsDetermined (command_of (map string_bytes words.now.items)) f o
         → (result.outcome ≡ o) ⊎ (result.outcome ≡ outcomes.NoMemory) }
 
@@ -78,6 +85,13 @@ pub fn cdle_run<F: Folder, S: Sink>(
         → Quiet (F.state folder.old).read_faults (F.state folder.new).read_faults → Quiet (S.state out.old).faults (S.state out.new).faults
         → command_of (map string_bytes words.now.items) ≡ Some (core files budget) → AreReadable f [] files all → check_items budget all ≡ accepts
         → (result.outcome ≡ outcomes.Ok 0 (length all)) ⊎ (result.outcome ≡ outcomes.NoMemory) }
+
+    // And it builds wherever the file of the words' module is there, the rules give items for it with the words' budget, and the plain check with it accepts them.
+    ensures builds { (f : Files) (name source text : Bytes) (budget : ℕ) (ws : List Written) → (F.state folder.old).files ≡ Some f
+        → Quiet (F.state folder.old).read_faults (F.state folder.new).read_faults → Quiet (F.state folder.old).write_faults (F.state folder.new).write_faults
+        → Quiet (S.state out.old).faults (S.state out.new).faults → command_of (map string_bytes words.now.items) ≡ Some (build name budget)
+        → IsThere (Some f) most_bytes (source_file name) source → IsModuleAnswer budget source name (gives ws text) → length text ≤ most_core_bytes → check_items budget ws ≡ accepts
+        → (result.outcome ≡ outcomes.Ok 1 (length ws)) ⊎ (result.outcome ≡ outcomes.NoMemory) }
 {
     let done = work(alloc, words, folder);
     let outcome = put_report(done, out);
@@ -89,13 +103,13 @@ pub fn cdle_run<F: Folder, S: Sink>(
 
 /// Does what the words ask for.
 fn work<F: Folder>(alloc: Global, words: &Vec<String>, folder: &mut F) -> Done
-    ensures files { (F.state folder.new).files ≡ (F.state folder.old).files }
-    ensures write_faults { (F.state folder.new).write_faults ≡ (F.state folder.old).write_faults }
+    ensures files { LeavesFiles (command_of (map string_bytes words.now.items)) (record { before = F.state folder.old; after = F.state folder.new }) }
     ensures work { IsWork (command_of (map string_bytes words.now.items))
         (record { before = F.state folder.old; after = F.state folder.new }) result }
 {
     match command_asked(alloc, words) {
         Ok(Asked::Core { files, budget }) => core_command(alloc, &files, budget, folder),
+        Ok(Asked::Build { module, budget }) => build(alloc, module.as_str(), budget, folder),
         Err(WordsFault::Usage) => usage(alloc),
         Err(WordsFault::NoMemory) => Done::no_memory(alloc),
     }

@@ -1,6 +1,6 @@
 use Rattle.build_outcome.specs.Changes.{FolderChange}
 use Rattle.cdle_call.specs.Run.{SinkChange}
-use Rattle.cdle_call.proofs.Ends.{accepted_end, complete_end, exact_end, no_command_end, refused_end, undecided_end, usage_end}
+use Rattle.cdle_call.proofs.Ends.{accepted_end, builds_end, complete_end, exact_end, no_command_end, refused_end, undecided_end, usage_end}
 use Rattle.cdle_call.proofs.run.cdle_run.Goals as goal
 
 pub returns-clause-usage : goal.returns-clause-usage
@@ -44,3 +44,10 @@ returns-clause-complete g c =
     let v : FolderChange = record { before = g.F.Folder.state c.args.folder.now; after = g.F.Folder.state c.work-done.new.folder } in
     let out : SinkChange = record { before = g.S.Sink.state c.args.out.now; after = g.S.Sink.state c.put_report-outcome.new.out } in
     λ f files budget all told quiet silent e there ok. complete_end _ v out _ f files budget all (record { done = c.work-done.result; work = c.work-done.ensures.work; ends = c.put_report-outcome.ensures.ends }) told quiet silent e there ok
+
+pub returns-clause-builds : goal.returns-clause-builds
+returns-clause-builds g c =
+    let v : FolderChange = record { before = g.F.Folder.state c.args.folder.now; after = g.F.Folder.state c.work-done.new.folder } in
+    let out : SinkChange = record { before = g.S.Sink.state c.args.out.now; after = g.S.Sink.state c.put_report-outcome.new.out } in
+    λ f name source text budget ws told quiet still silent e there answer short ok.
+    builds_end _ v out _ f name source text budget ws (record { done = c.work-done.result; work = c.work-done.ensures.work; ends = c.put_report-outcome.ensures.ends }) told quiet still silent e there answer short ok
