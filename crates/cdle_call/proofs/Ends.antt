@@ -1,11 +1,11 @@
 -- What the end of a call says, by the work.
-use Rattle.std.proofs.Common.{◌≡◌, ◌∙◌, ◌⊎◌, inl, inr, ℕ, List, [], Option, Some, None, length, sym, subst}
+use Rattle.std.proofs.Common.{◌≡◌, ◌∙◌, ◌⊎◌, inl, inr, ◌≤◌, ℕ, List, [], Option, Some, None, length, sym, subst}
 use Rattle.cdle_folder.specs.Causes.{Quiet, Rose}
 use Rattle.cdle_folder.proofs.Causes.{no_rise}
 use Rattle.cdle_folder.specs.Files.{Bytes, Files}
 use Rattle.cdle_model.specs.Check.{accepts, check_items}
 use Rattle.cdle_model.specs.Forms.{Written}
-use Rattle.cdle_words.specs.Words.{Command, core}
+use Rattle.cdle_words.specs.Words.{Command, build, core}
 use Rattle.build_drive.specs.Calls.{AreReadable}
 use Rattle.build_outcome.specs.Changes.{FolderChange}
 use Rattle.build_outcome.specs.declared.outcome.Outcome.{Outcome}
