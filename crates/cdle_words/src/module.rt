@@ -10,7 +10,7 @@ use unicode_ident::{is_xid_continue, is_xid_start};
 
 /// The one value, where it is a module's name.
 pub(crate) fn module_of(mut values: Vec<String>) -> Option<String>
-    ensures { option_map string_bytes result ≡ only_module (map string_bytes values.entry.items) }
+    ensures { option_map string_bytes result ≡ only_module (map string_bytes values.items) }
 {
     let module = values.pop()?;
     if !values.is_empty() || !is_module_name(module.as_str()) {
