@@ -1,3 +1,4 @@
+pub mod ModuleNames
 pub mod Words
 pub mod Command
 pub mod Parser

@@ -1,10 +1,11 @@
 -- What the words of the command line ask for.
 use Rattle.std.specs.Prelude.{◌==◌, ◌++◌, ◌&&◌, ℕ, Bool, true, false, List, [], ◌∷◌, Option, Some, None}
-use Rattle.std.specs.Prelude.{codes, if◌then◌else◌, is_some, option_and_then, length, nat_le, nat_lt}
+use Rattle.std.specs.Prelude.{codes, if◌then◌else◌, is_some, option_and_then, option_map, length, nat_le, nat_lt}
 use Rattle.std.specs.Char.{is_ascii_digit}
 use Rattle.std.specs.List.{list_all}
 use Rattle.std.specs.Str.Parse.{digits_value}
 use Rattle.std.specs.Str.{bytes_eq}
+use Rattle.cdle_words.specs.ModuleNames.{is_module_name}
 
 -- a word, by its bytes
 abbrev pub Word : Type 0
@@ -77,9 +78,10 @@ budget_of (Some word) = within 10000000 (number_of 8 word)
 
 -- ---- commands
 
--- what is to be done: to check these files, with this budget
+-- what is to be done, with this budget: to check these files, or to build the module of that name
 pub data Command : Type 0 where
   core : List Word → ℕ → Command
+  build : Word → ℕ → Command
 
 -- `core` wants a file at least
 abbrev pub core_of : List Word → ℕ → Option Command
@@ -89,8 +91,22 @@ core_of (file ∷ files) budget = Some (core (file ∷ files) budget)
 abbrev pub core_given : Given → Option Command
 core_given given = option_and_then (core_of given.values) (budget_of given.budget)
 
+-- the one value, where it is a module's name
+abbrev pub only_module : List Word → Option Word
+only_module [] = None
+only_module (name ∷ []) = if is_module_name name then Some name else None
+only_module (name ∷ other ∷ more) = None
+
+-- `build` wants a module's name and nothing more
+abbrev pub build_of : List Word → ℕ → Option Command
+build_of values budget = option_map (λ name. build name budget) (only_module values)
+
+abbrev pub build_given : Given → Option Command
+build_given given = option_and_then (build_of given.values) (budget_of given.budget)
+
 -- what the words ask for; none where they are no command
 abbrev pub command_of : List Word → Option Command
 command_of [] = None
 command_of (first ∷ words) =
-    if bytes_eq first (codes "core") then option_and_then core_given (read_words nothing_given false words) else None
+    if bytes_eq first (codes "core") then option_and_then core_given (read_words nothing_given false words)
+    else (if bytes_eq first (codes "build") then option_and_then build_given (read_words nothing_given false words) else None)
