@@ -1,11 +1,11 @@
 use Rattle.std.proofs.Common.{◌≡◌, ◌∙◌, ◌&&◌, ◌++◌, rules, tests, sym, ap}
 use Rattle.std.specs.Char.{encode_utf8}
 use Rattle.std.specs.List.{list_all}
-use Rattle.std.specs.Str.{IsUtf8, chars}
+use Rattle.std.specs.Str.{chars}
 use Rattle.std.proofs.lemmas.Iterator.{YieldsList-from_chars}
 use Rattle.std.proofs.lemmas.Iterator.Search.{all_from_yields_List}
 use Rattle.std.proofs.lemmas.Str.{IsUtf8-past_char, chars_past_char}
-use Rattle.source_model.specs.SurfaceTokens.{continues_name, starts_name}
+use Rattle.source_model.specs.SurfaceTokens.{continues_name}
 use Rattle.cdle_words.specs.ModuleNames.{spell_name}
 use Rattle.cdle_words.proofs.module.is_name.Goals as goal
 
