@@ -26,7 +26,7 @@ impl Done {
     ) -> Result<Done, NoMemory>
         requires { IsShown text.now outcome }
         ensures outcome { IfOk result (λ done. done.outcome ≡ outcome) }
-        ensures report { IfOk result (IsReported (option_map (λ name. name.now) job) text.now) }
+        ensures report { IfOk result (IsReported (option_map (λ name. name.now) job.entry) text.now) }
     {
         match report(alloc, job, &outcome, text) {
             Ok(report) => Ok(Done {
