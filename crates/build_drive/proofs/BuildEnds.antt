@@ -139,7 +139,7 @@ pub checked_back : (Verdict : List Written → Outcome → Type 0) (file text by
 checked_back Verdict file text bytes ws o e (inl h) = h.1
 checked_back Verdict file text bytes ws o e (inr h) = not_back file text bytes o e h
 
-too_long_short : {R : Type 0} (text : Bytes) → most_core_bytes < length text → length text ≤ most_core_bytes → R
+pub too_long_short : {R : Type 0} (text : Bytes) → most_core_bytes < length text → length text ≤ most_core_bytes → R
 too_long_short text h g = absurd (omega (arith, h, g))
 
 pub one_core : (n : ℕ) (file text : Bytes) (ws : List Written) (d e : CoreEnd) (o p : Outcome) → IsFaultlessCore text d → IsFaultlessCore text e

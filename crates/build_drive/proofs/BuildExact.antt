@@ -1,5 +1,5 @@
 -- Over a folder that tells its files, and where nothing fails, a call of `build` has one outcome.
-use Rattle.std.proofs.Common.{◌≡◌, ◌∙◌, ◌⊎◌, inl, inr, ◌<◌, ◌≤◌, ℕ, true, List, Option, Some, None, IfSome, length, refl, sym, ap, subst}
+use Rattle.std.proofs.Common.{◌≡◌, ◌∙◌, ◌⊎◌, inl, inr, ◌<◌, ◌≤◌, ℕ, true, List, Option, Some, None, IfSome, [], length, refl, sym, ap, subst}
 use Rattle.std.proofs.lemmas.Slice.Eq.{bytes_eq-Decides}
 use Rattle.std.specs.Option.{option_map}
 use Rattle.std.specs.Str.{bytes_eq}
@@ -66,9 +66,9 @@ faultless v f name (given source text e) told quiet still h =
 -- what gives a text does not end the call
 pub not_ended : {R : Type 0} (n : ℕ) (name file a b : Bytes) (x y : ModuleAnswer) (ws : List Written) (text : Bytes) (o : Outcome) → a ≡ b → IsModuleAnswer n a name x → IsEndOf n file a x o
     → IsModuleAnswer n b name y → y ≡ gives ws text → R
-not_ended n name file a b x y ws text o same h e g given =
+not_ended n name file a b x y ws text o same h e g is =
     let other : IsModuleAnswer n a name y = subst (λ (z : Bytes). IsModuleAnswer n z name y) (sym same) g in
-    absurd (subst (λ (z : ModuleAnswer). IsEndOf n file a z o) (one_answer n a name x y h other ∙ given) e)
+    absurd (subst (λ (z : ModuleAnswer). IsEndOf n file a z o) (one_answer n a name x y h other ∙ is) e)
 
 one_ending : (n : ℕ) (name file a b : Bytes) (x y : ModuleAnswer) (o p : Outcome) → a ≡ b → IsModuleAnswer n a name x → IsEndOf n file a x o → IsModuleAnswer n b name y → IsEndOf n file b y p → p ≡ o
 one_ending n name file a b x y o p same h e g d =

@@ -46,6 +46,7 @@ malformed_shape known file bytes at bad.NotUtf8 h = broken at h refl
 malformed_shape known file bytes at (bad.Wanted word) h = faulty (BadText at h.0) h.2 (ap (λ (w : Bytes). outcome.Malformed file at (bad.Wanted w)) h.1)
 malformed_shape known file bytes at (bad.Unbound name) h = faulty (Unbound at) h.1 (ap (λ (w : Bytes). outcome.Malformed file at (bad.Unbound w)) (word_name bytes at name h.0))
 malformed_shape known file bytes at (bad.WrongClass name) h = faulty (WrongClass at) h.1 (ap (λ (w : Bytes). outcome.Malformed file at (bad.WrongClass w)) (word_name bytes at name h.0))
+malformed_shape known file bytes at what h = absurd h
 
 shape : (known : List Name) (file bytes : Bytes) (o : Outcome) → IsEnd known file bytes o → Shape known file bytes o
 shape known file bytes (outcome.Malformed name at what) h = rw h.0 (malformed_shape known file bytes at what h.1)

@@ -13,7 +13,7 @@ use Rattle.scope_model.specs.Scope.{Unbound, WrongClass, Twice}
 use Rattle.build_model.specs.SourceFiles.{InTokens, InTree, NotUtf8}
 use Rattle.build_module.specs.ModuleAnswers.{ModuleAnswer, IsModuleAnswer, gives, no_module, many_items, unscoped, not_built, refuses as rules_refuse, spends as rules_spend, deepens}
 use Rattle.build_module.proofs.GivenText.{given_text}
-use Rattle.build_module.proofs.OneAnswer.{some_answer}
+use Rattle.build_module.proofs.OneAnswer.{an_answer}
 use Rattle.build_outcome.specs.Changes.{most_bytes}
 use Rattle.build_outcome.specs.declared.outcome.Outcome.{Outcome}
 use Rattle.build_outcome.specs.declared.outcome.Outcome.TheVariants as outcome
@@ -76,7 +76,7 @@ text_settled n f name source text ws there answer = elim (cases_lt most_core_byt
 
 source_settled : (n : ℕ) (f : Files) (name source : Bytes) → IsThere (Some f) most_bytes (source_file name) source → Settled n f name
 source_settled n f name source there =
-    let a = some_answer n source name in
+    let a = an_answer n source name in
     elim (ends_so n (source_file name) source name a.0 a.1) [
       | inl ended ↦ inl (ended.0, (ending source, there, (a.0, a.1, ended.1)))
       | inr text ↦ text_settled n f name source text.1 text.0 there (subst (IsModuleAnswer n source name) text.2 a.1)

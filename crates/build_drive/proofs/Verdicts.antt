@@ -28,7 +28,7 @@ use Rattle.build_outcome.specs.declared.outcome.Outcome.{Outcome}
 use Rattle.build_outcome.specs.declared.outcome.Outcome.TheVariants as outcome
 use Rattle.build_outcome.specs.declared.outcome.Reason.TheVariants.{Core, Duplicate}
 use Rattle.build_outcome.specs.declared.outcome.Spot.{Spot}
-use Rattle.build_outcome.specs.declared.outcome.Spot.TheVariants.{CoreSpot}
+use Rattle.build_outcome.specs.declared.outcome.Spot.TheVariants.{CoreSpot, FileSpot}
 use Rattle.build_drive.proofs.Numbers.{duplicate-within, ends-within, refused-within}
 
 -- ---- from a fault to its outcome
@@ -96,6 +96,8 @@ tells-is ws accepts (outcome.Ok modules items) h = ap₂ outcome.Ok h.0 h.1
 tells-is ws (refuses i path reason) (outcome.Refused (CoreSpot name p) (Core why)) h = rw (name-is ws i name h.0.0, h.0.1, why-is reason why h.1) refl
 tells-is ws (duplicate i earlier) (outcome.Refused (CoreSpot name p) (Duplicate e)) h = rw (name-is ws i name h.0.0, h.0.1, h.1) refl
 tells-is ws (ends i deep) (outcome.Limit name Depth) h = ap (λ (x : Bytes). outcome.Limit x Depth) (name-is ws i name h)
+tells-is ws (refuses i path reason) (outcome.Refused (FileSpot file at) (Core why)) h = absurd h.0
+tells-is ws (duplicate i earlier) (outcome.Refused (FileSpot file at) (Duplicate e)) h = absurd h.0
 tells-is ws v o h = absurd h
 
 -- ---- at two budgets
@@ -124,6 +126,7 @@ one-verdict n ws o (outcome.ReadFault file) h g = decided-twice n ws o _ h g
 one-verdict n ws o (outcome.WriteFault file) h g = decided-twice n ws o _ h g
 one-verdict n ws o outcome.NoMemory h g = decided-twice n ws o _ h g
 one-verdict n ws o (outcome.Missing file) h g = decided-twice n ws o _ h g
+one-verdict n ws o (outcome.ReadBack file at wrote read) h g = decided-twice n ws o _ h g
 
 -- ---- there is one
 
@@ -185,3 +188,4 @@ some-verdict n ws (outcome.ReadFault file) h = (n, h)
 some-verdict n ws (outcome.WriteFault file) h = (n, h)
 some-verdict n ws outcome.NoMemory h = (n, h)
 some-verdict n ws (outcome.Missing file) h = (n, h)
+some-verdict n ws (outcome.ReadBack file at wrote read) h = (n, h)

@@ -27,6 +27,7 @@ IsMalformed known bytes at bad.NotUtf8 = IsValidUpTo bytes at
 IsMalformed known bytes at (bad.Wanted word) = (what : CoreWanted) × (word ≡ wanted_word what) × IsFirstFault bytes known (BadText at what)
 IsMalformed known bytes at (bad.Unbound name) = IsWordAt bytes at name × IsFirstFault bytes known (Unbound at)
 IsMalformed known bytes at (bad.WrongClass name) = IsWordAt bytes at name × IsFirstFault bytes known (WrongClass at)
+IsMalformed known bytes at what = ⊥
 
 -- the most items of all files
 abbrev pub most_items : ℕ

@@ -13,7 +13,7 @@ use Rattle.build_outcome.specs.declared.outcome.Outcome.{Outcome}
 use Rattle.build_outcome.specs.declared.outcome.Outcome.TheVariants as outcome
 use Rattle.build_outcome.specs.declared.outcome.Reason.TheVariants.{Core, Duplicate}
 use Rattle.build_outcome.specs.declared.outcome.Spot.{Spot}
-use Rattle.build_outcome.specs.declared.outcome.Spot.TheVariants.{CoreSpot}
+use Rattle.build_outcome.specs.declared.outcome.Spot.TheVariants.{CoreSpot, FileSpot}
 
 -- the name of an item, by its number over all files
 abbrev pub IsItemName : List Written → ℕ → Bytes → Type 0
@@ -30,6 +30,7 @@ IsNameAt ws fault.NoMemory name = ⊥
 -- a place in the item of that number
 abbrev pub IsSpot : List Written → ℕ → List ℕ → Spot → Type 0
 IsSpot ws i path (CoreSpot name p) = IsItemName ws i name × (p ≡ path)
+IsSpot ws i path (FileSpot file at) = ⊥
 
 -- no list that begins with the items up to that one has a derivation
 abbrev pub AreNotDerivedUpTo : List Written → ℕ → Type 0

@@ -1,5 +1,5 @@
 -- What a module's file comes to, with n units for each comparison and each head form: the text of its Core file, or why there is none.
-use Rattle.std.specs.Prelude.{◌≡◌, ◌<◌, ◌≤◌, ℕ, false, List, [], ◌∷◌, Option, Some, None, Result, Ok, Err, get_or, length, unwrap_or}
+use Rattle.std.specs.Prelude.{◌≡◌, ◌<◌, ◌≤◌, ℕ, false, List, [], ◌∷◌, Option, Some, None, Result, Ok, Err, get_or, length}
 use Rattle.cdle_model.specs.Forms.{Written}
 use Rattle.source_model.specs.Source.{Span, Module}
 use Rattle.scope_model.specs.Scope.{ScopeFault, all_names, scoped_module}

@@ -1,0 +1,4 @@
+pub mod ModuleItems
+pub mod OneAnswer
+pub mod Printable
+pub mod GivenText
