@@ -77,11 +77,11 @@ one_ending n name file a b x y o p same h e g d =
     let found : IsEndOf n file a x p = subst (λ (z : ModuleAnswer). IsEndOf n file a z p) (sym (one_answer n a name x y h other)) ends in
     end-is n file a x p found ∙ sym (end-is n file a x o e)
 
-items_in : ModuleAnswer → List Written → List Written
+abbrev items_in : ModuleAnswer → List Written → List Written
 items_in (gives ws text) us = ws
 items_in a us = us
 
-text_in : ModuleAnswer → Bytes → Bytes
+abbrev text_in : ModuleAnswer → Bytes → Bytes
 text_in (gives ws text) b = text
 text_in a b = b
 

@@ -29,7 +29,7 @@ use Rattle.build_drive.proofs.BuildExact.{at_some, not_ended, one_build, same_gi
 use Rattle.build_drive.proofs.Calls.{longer_some, none_some, same_bytes}
 use Rattle.build_drive.proofs.Items.{said-over}
 use Rattle.build_drive.proofs.Verdicts.{unspent, verdict-there}
-use Rattle.build_drive.proofs.Writing.{derived-take}
+use Rattle.build_drive.proofs.Writing.{derived-before}
 
 -- ---- there is one
 
@@ -54,8 +54,8 @@ ends_so n file source name (deepens w) h = inl (outcome.Limit w Depth, refl)
 -- the check of items that have a derivation, as that of one module
 one_module : (n : ℕ) (ws : List Written) (v : ListVerdict) (o : Outcome) → AreDerived ws → check_items n ws ≡ v → MatchesVerdict ws v o → OfOneModule (IsVerdictAtBudget n) ws (as_module o)
 one_module n ws accepts (outcome.Ok modules items) derived e h = (refl, subst (λ x. MatchesVerdict ws x (outcome.Ok 0 items)) (sym e) (refl, h.1, h.2))
-one_module n ws (refuses i path reason) (outcome.Refused spot (Core why)) derived e h = absurd (h.2 (derived-take ws (suc i) derived))
-one_module n ws (duplicate i earlier) (outcome.Refused spot (Duplicate d)) derived e h = absurd (h.2 (derived-take ws (suc i) derived))
+one_module n ws (refuses i path reason) (outcome.Refused spot (Core why)) derived e h = absurd (h.2 (derived-before (suc i) [] ws derived))
+one_module n ws (duplicate i earlier) (outcome.Refused spot (Duplicate d)) derived e h = absurd (h.2 (derived-before (suc i) [] ws derived))
 one_module n ws (ends i deep) (outcome.Limit name Depth) derived e h = subst (λ x. MatchesVerdict ws x (outcome.Limit name Depth)) (sym e) h
 one_module n ws v o derived e h = absurd h
 
