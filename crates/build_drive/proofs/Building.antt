@@ -1,14 +1,19 @@
 -- From the parts of a call of `build` to the whole of it.
-use Rattle.std.proofs.Common.{◌≡◌, ◌∙◌, ◌⊎◌, inl, inr, ◌≤◌, ℕ, List, Option, refl, sym, ap, subst}
+use Rattle.std.proofs.Common.{◌≡◌, ◌∙◌, ◌⊎◌, inl, inr, ◌≤◌, ℕ, List, [], Option, Result, Ok, Err, IfErr, IfOk, refl, sym, ap, subst}
 use Rattle.std.specs.Option.{option_map}
 use Rattle.cdle_folder.specs.Causes.{Rose}
 use Rattle.cdle_folder.specs.Files.{Bytes, Files, Reads, IsOtherwiseSame, with_file, with_read}
 use Rattle.cdle_folder.specs.States.{FolderState}
+use Rattle.cdle_model.specs.CoreText.{Says}
+use Rattle.cdle_model.specs.Derivation.{AreDerived}
+use Rattle.cdle_model.specs.Forms.{Written}
+use Rattle.build_outcome.specs.declared.done.Stop.{Stop}
+use Rattle.build_outcome.specs.declared.done.Stop.TheVariants as stops
 use Rattle.build_outcome.specs.Changes.{FolderChange}
 use Rattle.build_outcome.specs.declared.done.Done.{Done}
 use Rattle.build_module.proofs.GivenText.{given_text}
 use Rattle.build_source.specs.Files.{Unread, absent, too_long, failed, IsUnread, IsUntouched, core_file, source_file}
-use Rattle.build_source.specs.Progress.{EndsBefore, HasGiven}
+use Rattle.build_source.specs.Progress.{EndsBefore, HasGiven, IfEnded}
 use Rattle.build_drive.specs.BuildCalls.{IsLeft}
 use Rattle.build_drive.specs.BuildProgress.{EndsWriting, IsBuilding}
 use Rattle.build_drive.specs.BuildTraces.{CoreEnd, unwritten, unread, contents, no_source, ending, given, IsCoreTrace}
@@ -50,6 +55,26 @@ ended_after n a m z name text d same faults absences h w =
     (h.1.1, core_later a m z (with_read (source_file name) h.0 a.given) (core_file name) text w.0 same h.1.0 faults absences w.1),
     (h.2.0, h.2.1, w.2 h.2.0 said.core_says said.derived),
     w.3)
+
+-- ---- as results
+
+pub stop_before : (n : ℕ) (v : FolderChange) (name : Bytes) (stop : Stop) → IsUntouched v → IfEnded (EndsBefore n v name) stop → IfEnded (IsBuilding n v name) stop
+stop_before n v name stops.NoMemory same h = tt
+stop_before n v name (stops.Ended d) same h = ended_before n v name d same h
+
+-- what the text says has a derivation
+pub text_derived : (n : ℕ) (v : FolderChange) (name text : Bytes) → HasGiven n v name text → (ws : List Written) × Says text [] ws × AreDerived ws
+text_derived n v name text h = let said = given_text n h.0 name h.2.0 text h.2.1 in (h.2.0, said.core_says, said.derived)
+
+module _ (n : ℕ) (a m z : FolderState) (name text : Bytes) (same : IsUntouched (change a m)) (faults : a.read_faults ≤ m.read_faults) (absences : a.absences ≤ m.absences) (h : HasGiven n (change a m) name text) where
+  pub done_after : (r : Result Done Stop) → IfOk r (EndsWriting n (change m z) name text) → IfOk r (IsBuilding n (change a z) name)
+  done_after (Ok d) w = ended_after n a m z name text d same faults absences h w
+  done_after (Err stop) w = tt
+
+  pub stop_after : (r : Result Done Stop) → IfErr r (IfEnded (EndsWriting n (change m z) name text)) → IfErr r (IfEnded (IsBuilding n (change a z) name))
+  stop_after (Ok d) w = tt
+  stop_after (Err stops.NoMemory) w = tt
+  stop_after (Err (stops.Ended d)) w = ended_after n a m z name text d same faults absences h w
 
 -- ---- what is left of the files
 

@@ -6,14 +6,14 @@
 //! (`core_text`), the checker (`core_check`), the folder (`cdle_folder`) and places (`cdle_names`).
 #![tactic(auto)]
 
-mod build;
 mod check;
 mod command;
 mod laws;
+mod one_module;
 mod reading;
 mod written;
 
-pub use build::build;
 pub use build_outcome::{Badness, Done, Outcome, Reason, Spot};
 pub use command::core_command;
 pub use laws::{one_outcome_of_build, one_outcome_where_nothing_fails};
+pub use one_module::build;

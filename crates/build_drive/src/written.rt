@@ -7,6 +7,7 @@ ghost use Rattle.cdle_model.specs.CoreText.{Says};
 ghost use Rattle.cdle_model.specs.Derivation.{AreDerived};
 ghost use Rattle.cdle_model.specs.Forms.{Written};
 ghost use Rattle.core_check.specs.Items.{items_of};
+ghost use Rattle.core_text.specs.File.{IsFaultOf};
 ghost use Rattle.build_outcome.specs.Reports.{IsReported, IsShown};
 ghost use Rattle.build_drive.specs.BuildAnswers.{DifferAt, IsReadBackEnd, OfOneModule};
 ghost use Rattle.build_drive.specs.BuildProgress.{EndsWriting};
@@ -73,10 +74,20 @@ fn read_back(
 
 /// The number of the first byte at which the two are not the same, the end of one being like no byte.
 fn first_difference(left: &[u8], right: &[u8]) -> Option<usize>
-    requires { length left.now ≤ 4294967295 }
     ensures { MatchOption result (right.now ≡ left.now) (λ at. DifferAt left.now right.now at (slice_get left.now at) (slice_get right.now at)) }
 {
-    None
+    let mut at = 0;
+    while at < left.len() && at < right.len() {
+        if left[at] != right[at] {
+            return Some(at);
+        }
+        at += 1;
+    }
+    if left.len() == right.len() {
+        None
+    } else {
+        Some(at)
+    }
 }
 
 /// What was read back differs at that byte.
@@ -88,7 +99,8 @@ fn different(
     bytes: &[u8],
     at: usize,
 ) -> Result<Done, NoMemory>
-    requires { DifferAt text.now bytes.now at (slice_get text.now at) (slice_get bytes.now at) }
+    requires there { DifferAt text.now bytes.now at (slice_get text.now at) (slice_get bytes.now at) }
+    requires short { length bytes.now ≤ 67108864 }
     ensures outcome { IfOk result (λ done. IsReadBackEnd file.now text.now bytes.now done.outcome) }
     ensures report { IfOk result (IsReported (Some name.now) []) }
 {
@@ -102,12 +114,7 @@ fn different(
 }
 
 /// The check of the items that the bytes say.
-fn checked_module(
-    alloc: Global,
-    name: &str,
-    bytes: &[u8],
-    budget: u64,
-) -> Result<Done, NoMemory>
+fn checked_module(alloc: Global, name: &str, bytes: &[u8], budget: u64) -> Result<Done, NoMemory>
     requires said { (ws : List Written) × Says bytes.now [] ws × AreDerived ws }
     requires short { length bytes.now ≤ 67108864 }
     ensures outcome { IfOk result (λ done. (ws : List Written) → Says bytes.now [] ws → AreDerived ws → OfOneModule (IsVerdictAtSomeBudget budget) ws done.outcome) }
@@ -126,8 +133,22 @@ fn said(alloc: Global, bytes: &[u8]) -> Result<Vec<CoreFile>, NoMemory>
 {
     match read_core(alloc, bytes, &CoreScope::new(alloc)) {
         Ok(file) => one(alloc, file),
-        Err(CoreTextFault::NoMemory) => Err(NoMemory),
-        Err(_) => unreachable!(),
+        Err(fault) => Err(memory_wanted(bytes, fault)),
+    }
+}
+
+/// Bytes that say items have no fault but want of memory.
+fn memory_wanted(bytes: &[u8], fault: CoreTextFault) -> NoMemory
+    requires said { (ws : List Written) × Says bytes.now [] ws × AreDerived ws }
+    requires fault { IsFaultOf bytes.now [] fault }
+{
+    match fault {
+        CoreTextFault::NotUtf8 { .. } => unreachable!(),
+        CoreTextFault::BadText { .. } => unreachable!(),
+        CoreTextFault::Unbound { .. } => unreachable!(),
+        CoreTextFault::WrongClass { .. } => unreachable!(),
+        CoreTextFault::TooDeep { .. } => unreachable!(),
+        CoreTextFault::NoMemory => NoMemory,
     }
 }
 

@@ -10,13 +10,15 @@ ghost use Rattle.build_outcome.specs.declared.outcome.Reason.{Reason as ReasonOf
 ghost use Rattle.build_outcome.specs.declared.outcome.Spot.{Spot as SpotOf};
 ghost use Rattle.build_outcome.specs.declared.outcome.Outcome.TheVariants as outcomes;
 ghost use Rattle.build_drive.specs.BuildCalls.{IsBuildCall, IsBuildDetermined, IsBuilt, IsLeft, IsRefusedSource, IsUndecidedModule};
-ghost use Rattle.build_drive.specs.BuildProgress.{IfEnded, IsBuilding};
-ghost use Rattle.build_drive.specs.BuildTraces.{IsThere, most_core_bytes, source_file};
+ghost use Rattle.build_drive.specs.BuildProgress.{IsBuilding};
+ghost use Rattle.build_drive.specs.BuildTraces.{most_core_bytes};
 ghost use Rattle.build_outcome.specs.Changes.{most_bytes};
+ghost use Rattle.build_source.specs.Files.{IsThere, source_file};
+ghost use Rattle.build_source.specs.Progress.{IfEnded};
 
-use crate::source::source_text;
 use crate::written::write_core;
 use build_outcome::{Done, Stop};
+use build_source::source_text;
 use cdle_folder::Folder;
 use std::alloc::Global;
 
