@@ -1,3 +1,4 @@
 pub mod ModuleAnswers
 pub mod Built
+pub mod Counts
 pub mod Answers

@@ -5,9 +5,12 @@
 //! is given is to its module. It stands on `surf_source`, `surf_scope`, `elab_item` and `elab_print`, and reads or writes no files.
 #![tactic(auto)]
 
+mod count;
 mod fault;
+mod items;
 mod laws;
 mod module;
+mod unbuilt;
 
 pub use fault::ModuleFault;
 pub use laws::{file_comes_to_one_answer, given_text_is_the_modules};
