@@ -56,10 +56,10 @@ shape known file bytes o h = absurd h
 
 -- ---- what excludes what
 
-no_broken : {R : Type 0} (bytes : Bytes) (at : ℕ) → IsUtf8 bytes → IsValidUpTo bytes at → R
+pub no_broken : {R : Type 0} (bytes : Bytes) (at : ℕ) → IsUtf8 bytes → IsValidUpTo bytes at → R
 no_broken bytes at u h = absurd (h.longest (length bytes) h.short (subst IsUtf8 (sym (take_all (length bytes) bytes (omega arith))) u))
 
-no_fault : {R : Type 0} (known : List Name) (bytes : Bytes) (ws : List Written) (x : Fault) → Says bytes known ws → IsFirstFault bytes known x → R
+pub no_fault : {R : Type 0} (known : List Name) (bytes : Bytes) (ws : List Written) (x : Fault) → Says bytes known ws → IsFirstFault bytes known x → R
 no_fault known bytes ws x h g =
     let ok = file_runs (length bytes) known (tokens false 0 bytes) ws h.file in
     let err = g.1 in

@@ -1,7 +1,5 @@
--- The Core file: compared with what was written, and checked.
-use Rattle.std.proofs.Common.{◌≡◌, ◌∙◌, inl, inr, ◌+◌, ◌≤◌, ◌++◌, ℕ, zero, suc, List, [], ◌∷◌, Option, Some, None, Result, Ok, Err, IfOk, IfSome, length, refl, sym, ap, ap₂, subst, arith, slice_get, take, ◌⊎◌, option_map}
-use Rattle.std.proofs.lemmas.Option.{get_or_from_slice_get, slice_get_cases, slice_get_within}
-use Rattle.std.proofs.lemmas.List.{length-take, take_more}
+-- The Core file: the check of what it says, and the end of the call over its whole change.
+use Rattle.std.proofs.Common.{◌≡◌, ◌∙◌, inl, inr, ◌++◌, ℕ, zero, suc, List, [], ◌∷◌, Option, Some, None, Result, Ok, Err, IfOk, IfSome, refl, sym, ap, subst, take, ◌⊎◌, option_map}
 use Rattle.cdle_folder.specs.Causes.{Rose}
 use Rattle.cdle_folder.specs.Files.{Bytes, Files, IsLonger, IsOtherwiseSame, with_file, with_read}
 use Rattle.cdle_folder.specs.States.{FolderState}
@@ -21,28 +19,10 @@ use Rattle.build_outcome.specs.declared.outcome.Outcome.TheVariants as outcome
 use Rattle.build_outcome.specs.declared.outcome.Reason.TheVariants.{Core, Duplicate}
 use Rattle.build_source.specs.Files.{Unread, absent, too_long, failed, IsThere, IsUnread, core_file}
 use Rattle.build_source.specs.Progress.{EndsUnread, IfEnded}
-use Rattle.build_drive.specs.BuildAnswers.{DifferAt, IsCoreOutcome, OfOneModule}
+use Rattle.build_drive.specs.BuildAnswers.{IsCoreOutcome, OfOneModule}
 use Rattle.build_drive.specs.BuildProgress.{EndsWriting}
 use Rattle.build_drive.specs.BuildTraces.{contents, most_core_bytes, unread}
 use Rattle.build_drive.specs.Checks.{IsVerdictAtSomeBudget, MatchesVerdict}
-
--- ---- the first byte at which two differ
-
--- two agree up to behind a byte that both have
-pub same-on : (xs ys : Bytes) (i x : ℕ) → slice_get xs i ≡ Some x → slice_get ys i ≡ Some x → take i xs ≡ take i ys → take (i + 1) xs ≡ take (i + 1) ys
-same-on xs ys i x e f h =
-    take_more xs i x (slice_get_within xs i x e)
-    ∙ ap₂ (λ (zs : Bytes) (z : ℕ). zs ++ (z ∷ [])) h (get_or_from_slice_get xs i x x e ∙ sym (get_or_from_slice_get ys i x x f)) ∙ sym (take_more ys i x (slice_get_within ys i x f))
-
--- the place of a difference is in each, or at its end
-pub differ-within : (xs ys : Bytes) (i : ℕ) (w r : Option ℕ) → DifferAt xs ys i w r → i ≤ length ys
-differ-within xs ys i w r d = elim (slice_get_cases ys i).1 [
-  | inl here ↦ omega (arith, slice_get_within ys i here.0 here.2)
-  | inr past ↦ elim (slice_get_cases xs i).1 [
-    | inl there ↦ omega (arith, length-take i xs, length-take i ys, slice_get_within xs i there.0 there.2, ap length d.before, past.0)
-    | inr gone ↦ absurd (d.differ (sym d.wrote_there ∙ gone.1 ∙ sym past.1 ∙ d.read_there))
-  ]
-]
 
 -- ---- the check of items that have a derivation
 
