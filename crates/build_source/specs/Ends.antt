@@ -14,7 +14,6 @@ use Rattle.build_outcome.specs.declared.outcome.Badness.{Badness}
 use Rattle.build_outcome.specs.declared.outcome.Badness.TheVariants as bad
 use Rattle.build_outcome.specs.declared.outcome.Outcome.{Outcome}
 use Rattle.build_outcome.specs.declared.outcome.Outcome.TheVariants as outcome
-use Rattle.build_outcome.specs.declared.outcome.Reason.{Reason}
 use Rattle.build_outcome.specs.declared.outcome.Reason.TheVariants.{Surface, NotBuilt}
 use Rattle.build_outcome.specs.declared.outcome.Spot.{Spot}
 use Rattle.build_outcome.specs.declared.outcome.Spot.TheVariants.{FileSpot}

@@ -1,5 +1,5 @@
 -- What the parts of the work on a module's file come to.
-use Rattle.std.specs.Prelude.{◌≡◌, ◌⊎◌, ℕ, List, [], Option, Some, None}
+use Rattle.std.specs.Prelude.{◌≡◌, ◌⊎◌, ℕ, [], Option, Some, None}
 use Rattle.cdle_folder.specs.Files.{Bytes, with_read}
 use Rattle.cdle_folder.specs.declared.outside.ReadStop.{ReadStop}
 use Rattle.cdle_folder.specs.declared.outside.ReadStop.TheVariants as stop

@@ -1,21 +1,22 @@
 //! The outcome of a module's file that comes to no Core text.
-ghost use Rattle.std.specs.Prelude.{◌≡◌, ◌≤◌, IfOk, List, ℕ, Ok, length};
+ghost use Rattle.std.specs.Prelude.{◌≡◌, ◌≤◌, ◌++◌, ◌∷◌, [], IfOk, List, ℕ, Ok, OnOk, length, map};
 ghost use Rattle.build_module.specs.Answers.{IsModuleFault, IsScopeFault, IsSourceFault};
-ghost use Rattle.build_module.specs.ModuleAnswers.{IsModuleAnswer, ModuleAnswer};
-ghost use Rattle.build_outcome.specs.Reports.{IsShown};
+ghost use Rattle.build_module.specs.ModuleAnswers.{ModuleAnswer};
 ghost use Rattle.build_outcome.specs.declared.outcome.Outcome.TheVariants as outcomes;
 ghost use Rattle.build_outcome.specs.declared.outcome.Spot.TheVariants.{FileSpot};
 ghost use Rattle.build_source.specs.Ends.{IsEndOf, spelled_in};
 ghost use Rattle.cdle_folder.specs.Files.{Bytes};
 ghost use Rattle.scoped_tree.specs.Trees.{place};
 ghost use Rattle.source_model.specs.SurfaceTokens.{TextToken, lexed};
+ghost use Rattle.source_model.specs.TokenParts.{AreTokens, HasTokens};
+ghost use Rattle.surf_lex.specs.Fronts.{token_of};
 
 use build_module::ModuleFault;
 use build_outcome::{Badness, Outcome, Reason, Spot, wanted_text};
 use cdle_model::{Count, NoMemory, Text};
 use cdle_names::Span;
 use std::alloc::Global;
-use surf_lex::lex;
+use surf_lex::{Token, lex};
 use surf_scope::ScopeFault;
 use surf_source::SourceFault;
 
@@ -27,8 +28,8 @@ pub(crate) fn end_of(
     budget: u64,
     fault: ModuleFault,
 ) -> Result<Outcome, NoMemory>
-    ensures end { IfOk result (λ o. (a : ModuleAnswer) → IsModuleFault (λ b. b ≡ a) fault → IsEndOf budget file.now source.now a o) }
-    ensures shown { IfOk result (λ o. length source.now ≤ 1048576 → (name : Bytes) → IsModuleFault (IsModuleAnswer budget source.now name) fault → IsShown source.now o) }
+    requires short { length source.now ≤ 1048576 }
+    ensures { IfOk result (λ o. (a : ModuleAnswer) → IsModuleFault (λ b. b ≡ a) fault → IsEndOf budget file.now source.now a o) }
 {
     match fault {
         ModuleFault::Source(fault) => source_fault(alloc, file, fault),
@@ -116,6 +117,7 @@ fn scope_fault(
     source: &[u8],
     fault: ScopeFault,
 ) -> Result<Outcome, NoMemory>
+    requires short { length source.now ≤ 1048576 }
     ensures { IfOk result (λ o. (n : ℕ) (a : ModuleAnswer) → IsScopeFault (λ b. b ≡ a) fault → IsEndOf n file.now source.now a o) }
 {
     match fault {
@@ -137,8 +139,9 @@ fn scope_fault(
 
 /// The tokens of the text that stand in the place, one behind the other: a name, or two with `#` between them.
 fn name_in(alloc: Global, source: &[u8], span: Span) -> Result<Text, NoMemory>
-    requires { length source.now ≤ 1048576 }
-    ensures { IfOk result (λ name. (ts : List TextToken) → lexed source.now ≡ Ok ts → name ≡ spelled_in source.now (place span) ts) }
+    requires short { length source.now ≤ 1048576 }
+    ensures cut { IfOk result (λ _. HasTokens source.now) }
+    ensures spelled { IfOk result (λ name. (ts : List TextToken) → lexed source.now ≡ Ok ts → name ≡ spelled_in source.now (place span) ts) }
 {
     // Never that it is no text or has no tokens: it is a module's.
     let Ok(text) = std::str::from_utf8(source) else {
@@ -147,13 +150,44 @@ fn name_in(alloc: Global, source: &[u8], span: Span) -> Result<Text, NoMemory>
     let Ok(tokens) = lex(alloc, text) else {
         return Err(NoMemory);
     };
-    let mut name = String::new(alloc);
-    for token in &tokens {
-        if span.from <= token.span.from && token.span.to <= span.to {
-            let from = token.span.from as usize;
-            let to = token.span.to as usize;
-            name.push_str(&text[from..to])?;
-        }
-    }
+    let spelled = spelled(alloc, source, &tokens, span)?;
+    // Never that these are no text: each token is one.
+    let Ok(name) = String::from_utf8(spelled) else {
+        return Err(NoMemory);
+    };
     Ok(Text::new(alloc, name.as_str())?)
+}
+
+/// The bytes of the tokens that stand in the place.
+fn spelled(
+    alloc: Global,
+    source: &[u8],
+    tokens: &Vec<Token>,
+    span: Span,
+) -> Result<Vec<u8>, NoMemory>
+    requires tokens { AreTokens source.now 0 (map token_of tokens.now.items) }
+    ensures { IfOk result (λ bytes. bytes.items ≡ spelled_in source.now (place span) (map token_of tokens.now.items)) }
+{
+    let mut bytes = Vec::new(alloc);
+    let mut at = 0;
+    'tokens: while at < tokens.len() {
+        let token = tokens[at];
+        add_token(source, token, span, &mut bytes)?;
+        at += 1;
+    }
+    Ok(bytes)
+}
+
+/// Adds the bytes of the token where it stands in the place.
+fn add_token(source: &[u8], token: Token, span: Span, bytes: &mut Vec<u8>) -> Result<(), NoMemory>
+    requires ahead { token.span.from ≤ token.span.to }
+    requires within { token.span.to ≤ length source.now }
+    ensures { OnOk result (bytes.new.items ≡ bytes.old.items ++ spelled_in source.now (place span) (token_of token ∷ [])) }
+{
+    if span.from <= token.span.from && token.span.to <= span.to {
+        let from = token.span.from as usize;
+        let to = token.span.to as usize;
+        bytes.extend_from_slice(&source[from..to])?;
+    }
+    Ok(())
 }

@@ -1,5 +1,5 @@
 //! The files of `build`: named, read and written.
-ghost use Rattle.std.specs.Prelude.{◌≡◌, ◌≤◌, [], IfErr, IfOk, MatchOption, OnOk, option_map, string_bytes};
+ghost use Rattle.std.specs.Prelude.{◌≡◌, ◌⊎◌, ◌≤◌, [], IfErr, IfOk, MatchOption, OnErr, OnOk, option_map, string_bytes};
 ghost use Rattle.cdle_folder.specs.Causes.{Rose};
 ghost use Rattle.cdle_folder.specs.Files.{IsOtherwiseSame, with_file, with_read};
 ghost use Rattle.build_outcome.specs.Reports.{IsReported, IsShown};
@@ -79,6 +79,8 @@ pub fn write_file_for<F: Folder>(
     ensures given { (F.state folder.new).given ≡ (F.state folder.old).given }
     ensures read_faults { (F.state folder.new).read_faults ≡ (F.state folder.old).read_faults }
     ensures absences { (F.state folder.new).absences ≡ (F.state folder.old).absences }
+    ensures left { OnErr result (((F.state folder.new).files ≡ (F.state folder.old).files) ⊎ Rose (F.state folder.old).write_faults (F.state folder.new).write_faults
+        × IsOtherwiseSame file.now (F.state folder.old).files (F.state folder.new).files) }
     ensures written { OnOk result ((F.state folder.new).files ≡ option_map (with_file file.now bytes.now) (F.state folder.old).files) }
     ensures ended { IfErr result (IfEnded (λ done. Rose (F.state folder.old).write_faults (F.state folder.new).write_faults
         × IsOtherwiseSame file.now (F.state folder.old).files (F.state folder.new).files
