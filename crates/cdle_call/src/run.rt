@@ -1,5 +1,5 @@
 //! The top call.
-ghost use Rattle.std.specs.Prelude.{◌≡◌, ◌⊎◌, [], ℕ, List, None, Some, length, map, string_bytes};
+ghost use Rattle.std.specs.Prelude.{◌≡◌, ◌⊎◌, ◌≤◌, [], ℕ, List, None, Some, length, map, string_bytes};
 ghost use Rattle.cdle_folder.specs.Causes.{Quiet, Rose, next_count};
 ghost use Rattle.cdle_folder.specs.Files.{Bytes, Files};
 ghost use Rattle.cdle_model.specs.Check.{accepts, check_items};
