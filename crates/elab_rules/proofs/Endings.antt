@@ -1,12 +1,13 @@
 -- How the questions at a rule's end go on: a tree that is not too deep, a variable that is not used, the parts of a form.
 use Rattle.std.proofs.Common.{◌≡◌, ℕ, ◌≤◌, Bool, true, false, ltb, cond, Option, Some, None, Result, Ok, Err, refl, sym, ap, ◌∙◌, subst}
 use Rattle.cdle_model.specs.HeadForms.{deepest}
-use Rattle.cdle_model.specs.Trees.{eq_of, app_of, eapp_of, tapp_of, group_of, beta_of, rho_of, phi_of, delta_of, Binder, Binder-discrete, Tree, var, name, leaf, unary, fun, apply, binary, bind, lacks}
+use Rattle.cdle_model.specs.Trees.{eq_of, app_of, eapp_of, tapp_of, group_of, beta_of, rho_of, phi_of, delta_of, Binder, Binder-discrete, Tree, var, name, leaf, unary, fun, apply, binary, bind, lacks, put}
 use Rattle.cdle_model.specs.Depth.{depth}
+use Rattle.cdle_model.specs.Erasure.{erased}
 use Rattle.source_model.specs.Source.{Span}
 use Rattle.elab_model.specs.declared.codes.Code.{Code}
 use Rattle.elab_model.specs.declared.codes.Code.TheVariants.{ErasedVariableUsed}
-use Rattle.elab_model.specs.Questions.{Questions, gives, rejects, deep_at, then, unless_deep, limited}
+use Rattle.elab_model.specs.Questions.{Questions, gives, rejects, deep_at, ask_same, then, unless_deep, limited}
 use Rattle.elab_model.specs.Rules.{unless_used}
 use Rattle.elab_model.specs.Spines.{binder_parts, equation_parts}
 use Rattle.elab_tree.specs.Answers.{Gives}
@@ -17,6 +18,7 @@ use Rattle.elab_rules.specs.declared.fault.Fault.{Fault}
 use Rattle.elab_rules.specs.declared.fault.Fault.TheVariants as f
 use Rattle.elab_rules.specs.declared.place.At.{At}
 use Rattle.elab_rules.specs.Answers.{IsLow, Meets, fault_of}
+use Rattle.elab_rules.specs.Equations.{is_said}
 use Rattle.elab_rules.specs.Parts.{parts_of, sides_of}
 use Rattle.elab_rules.specs.Places.{spot}
 use Rattle.elab_rules.proofs.Steps.{goes_on, ends, given, is_low, is_deep, no_memory}
@@ -38,6 +40,13 @@ module _ {A : Type 0} (e : Known) (n : ℕ) where
 
   pub deep_ends : (p : Span) (t : Tree) (g : Tree → Questions A) (d : Fault) → Meets e n (limited p t) (Err d) → Meets e n (unless_deep p t (g t)) (Err d)
   deep_ends p t g d h = subst (λ q. Meets e n q (Err d)) (then_cond (ltb deepest (depth t)) (deep_at p) (gives t) g) (ends e n (limited p t) g d h)
+
+  -- a type that a guide says of a side, and the rest
+  pub said_on : (s p : Span) (w : Code) (a d x : Tree) (q : Questions A) (r : Result A Fault) → Meets e n (is_said s p w a d x) (Ok (tt {0})) → Meets e n q r → Meets e n (unless_deep s (put 0 x d) (ask_same s p w (erased a) (put 0 x d) q)) r
+  said_on s p w a d x q r h m = subst (λ z. Meets e n z r) (then_cond (ltb deepest (depth (put 0 x d))) (deep_at s) (ask_same s p w (erased a) (put 0 x d) (gives (tt {0}))) (λ _. q)) (goes_on e n (is_said s p w a d x) (λ _. q) (tt {0}) r h m)
+
+  pub said_ends : (s p : Span) (w : Code) (a d x : Tree) (q : Questions A) (f : Fault) → Meets e n (is_said s p w a d x) (Err f) → Meets e n (unless_deep s (put 0 x d) (ask_same s p w (erased a) (put 0 x d) q)) (Err f)
+  said_ends s p w a d x q f h = subst (λ z. Meets e n z (Err f)) (then_cond (ltb deepest (depth (put 0 x d))) (deep_at s) (ask_same s p w (erased a) (put 0 x d) (gives (tt {0}))) (λ _. q)) (ends e n (is_said s p w a d x) (λ _. q) f h)
 
   -- a depth that is tested, and the rest
   pub low_on : (p : Span) (t : Tree) (d : ℕ) (q : Questions A) (r : Result A Fault) → d ≡ depth t → d ≤ 4096 → Meets e n q r → Meets e n (unless_deep p t q) r

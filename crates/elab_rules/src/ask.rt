@@ -19,7 +19,7 @@ use cdle_names::Span;
 use elab_convert::{ConvertStop, convert_kinds, convert_terms, convert_types};
 use elab_model::Code;
 use elab_reduce::{ElabStop, head_type};
-use elab_tree::{EGuideKind, EKind, EPure, EType, Env};
+use elab_tree::{EGuide, EGuideKind, EKind, EPure, EType, Env};
 use std::alloc::Global;
 
 /// The items so far, over which the rules are read, and the budget of each question.
@@ -103,6 +103,25 @@ impl Rules<'_> {
             at,
             code,
             convert_terms(self.alloc, self.env, left, right, self.budget),
+        )
+    }
+
+    /// Refuses, unless the two erased types are the same.
+    pub fn same_guides(
+        &self,
+        form: Span,
+        at: At,
+        code: Code,
+        left: &EGuide,
+        right: &EGuide,
+    ) -> Result<(), Fault>
+        ensures { Meets self.now.env.now self.now.budget (ask_same (place form) (spot at) code left.now right.now (gives tt)) result }
+    {
+        compared(
+            form,
+            at,
+            code,
+            convert_types(self.alloc, self.env, left, right, self.budget),
         )
     }
 

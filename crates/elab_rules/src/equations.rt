@@ -1,11 +1,11 @@
 //! How the rules of intersections and equations end, once their parts are found.
 ghost use Rattle.std.specs.Prelude.{◌≡◌, IfOk};
 ghost use Rattle.cdle_model.specs.Erasure.{erased};
-ghost use Rattle.cdle_model.specs.Forms.{beta, delta, eq, fn, fst, pair, phi, rho};
+ghost use Rattle.cdle_model.specs.Forms.{beta, delta, eq, fn, fst, pair, phi, rho, star};
 ghost use Rattle.cdle_model.specs.Substitution.{put_written};
 ghost use Rattle.cdle_model.specs.Trees.{shift, var};
 ghost use Rattle.elab_model.specs.Questions.{gives, limited, rejects};
-ghost use Rattle.elab_model.specs.Rules.{equation_then, gives_checked, gives_inferred, gives_spine};
+ghost use Rattle.elab_model.specs.Rules.{equation_then, gives_checked, gives_inferred, gives_spine, gives_type};
 ghost use Rattle.elab_model.specs.Spines.{equation_parts};
 ghost use Rattle.elab_model.specs.declared.codes.Code.TheVariants.{WantedEquation};
 ghost use Rattle.elab_rules.specs.Answers.{Meets};
@@ -23,10 +23,23 @@ use crate::spine::Made;
 use cdle_model::NoMemory;
 use cdle_names::Span;
 use elab_model::Code;
-use elab_tree::{EGuide, EPure, ETerm, EType, ETypeForm};
+use elab_tree::{EGuide, EKind, EPure, ETerm, EType, ETypeForm};
 use std::alloc::Global;
 
 impl Rules<'_> {
+    /// The equation of two pure terms, with its kind.
+    pub fn equation(
+        &self,
+        form: Span,
+        left: &EPure,
+        right: &EPure,
+    ) -> Result<(EType, EKind), Fault>
+        ensures { Meets self.now.env.now self.now.budget (gives_type (place form) (eq left.now right.now) star) result }
+    {
+        let ty = EType::eq(self.alloc, left, right)?;
+        self.of_star(form, ty)
+    }
+
     /// The sides of the equation that the type's head form is.
     pub fn sides(&self, form: Span, at: At, ty: &EType) -> Result<(EPure, EPure), Fault>
         ensures { Meets self.now.env.now self.now.budget (equation_then (place form) (spot at) ty.now (λ x y. gives (x, y))) result }

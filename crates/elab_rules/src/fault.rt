@@ -61,7 +61,7 @@ impl Fault {
 }
 
 /// Refuses a tree of this form that is deeper than 4,096.
-pub(crate) fn low(form: Span, depth: u32) -> Result<(), Fault>
+pub fn low(form: Span, depth: u32) -> Result<(), Fault>
     ensures { IsLow (place form) depth result }
 {
     if depth <= 4096 {

@@ -398,7 +398,7 @@ impl Rules<'_> {
     }
 
     /// A type whose kind is `★`.
-    fn of_star(&self, form: Span, ty: EType) -> Result<(EType, EKind), Fault>
+    pub(crate) fn of_star(&self, form: Span, ty: EType) -> Result<(EType, EKind), Fault>
         ensures { Meets self.now.env.now self.now.budget (gives_type (place form) ty star_tree) result }
     {
         low(form, ty.depth())?;

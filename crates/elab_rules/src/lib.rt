@@ -15,12 +15,14 @@ mod forms;
 mod kinds;
 mod names;
 mod place;
+mod rewriting;
 mod spine;
 mod uses;
 
 pub use ask::Rules;
 pub use context::{Binding, Context};
-pub use fault::Fault;
+pub use fault::{Fault, low};
 pub use forms::{Former, Product};
 pub use place::At;
 pub use spine::{Argument, Made, Opened, OpenedType, Spine};
+pub use uses::is_unused;

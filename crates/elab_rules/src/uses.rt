@@ -6,7 +6,7 @@ ghost use Rattle.cdle_model.specs.Trees.{lacks};
 use elab_tree::{EPure, EPureForm};
 
 /// Whether the innermost variable is not in the pure term.
-pub(crate) fn is_unused(pure: &EPure) -> bool
+pub fn is_unused(pure: &EPure) -> bool
     ensures { result ≡ lacks 0 pure.now }
 {
     // Asked for its bound alone.
