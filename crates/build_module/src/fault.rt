@@ -1,5 +1,8 @@
 //! Why a module's file has no Core text.
-use cdle_model::Text;
+ghost use Rattle.std.specs.Prelude.{◌≡◌};
+ghost use Rattle.build_module.specs.declared.fault.ModuleFault.TheVariants.{NoMemory as Wanted};
+
+use cdle_model::{NoMemory, Text};
 use cdle_names::Span;
 use elab_model::Code;
 use surf_scope::ScopeFault;
@@ -24,4 +27,12 @@ pub enum ModuleFault {
     TooDeep { item: Text },
     /// Memory was wanted and not there.
     NoMemory,
+}
+
+impl From<NoMemory> for ModuleFault {
+    ghost from_gives = { λ _ fault. fault ≡ Wanted };
+
+    fn from(_: NoMemory) -> ModuleFault {
+        ModuleFault::NoMemory
+    }
 }

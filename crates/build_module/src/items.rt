@@ -1,6 +1,7 @@
 //! From the items of a module to the text of its Core file.
 ghost use Rattle.std.specs.Prelude.{◌≡◌, ℕ, [], Err, IfOk, List, get_or, map};
 ghost use Rattle.build_module.specs.Answers.{IsDeepAt, OfItems, OfPrinted};
+ghost use Rattle.cdle_model.specs.Forms.{name_of};
 ghost use Rattle.elab_item.specs.Answers.{IsRefusal};
 ghost use Rattle.elab_model.specs.Items.{names_of, source_name};
 ghost use Rattle.elab_tree.specs.Items.{written};
@@ -77,11 +78,8 @@ fn named(alloc: Global, name: &Text) -> ModuleFault
 fn printed(alloc: Global, items: &Vec<OutItem>) -> Result<Vec<u8>, ModuleFault>
     ensures { OfPrinted (map written items.now.items) result }
 {
-    let names = match names_of(alloc, items) {
-        Ok(names) => names,
-        Err(NoMemory) => return Err(ModuleFault::NoMemory),
-    };
-    if u32::try_from(items.len()).is_err() {
+    let names = names_of(alloc, items)?;
+    if items.len() > u32::MAX as usize {
         return Err(ModuleFault::NoMemory);
     }
     match print_core(alloc, items, &names) {
@@ -104,7 +102,7 @@ fn deep_item(alloc: Global, items: &Vec<OutItem>, number: u32) -> ModuleFault
 
 /// The names of the items.
 fn names_of(alloc: Global, items: &Vec<OutItem>) -> Result<Vec<Text>, NoMemory>
-    ensures { IfOk result (λ names. names.items ≡ names_of (map written items.now.items)) }
+    ensures { IfOk result (λ names. names.items ≡ map (λ item. name_of (written item)) items.now.items) }
 {
     let mut names = Vec::new(alloc);
     for item in items {

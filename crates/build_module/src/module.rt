@@ -82,10 +82,9 @@ fn built_text(
     ensures { (names : List Text) (bytes : List ℕ) (name : Text) → IsModule bytes name (spelled_module names (module_of source.now))
         → scoped_module [] (spelled_module names (module_of source.now)) ≡ Ok (scoped_of scoped.now) → Answers budget bytes name result }
 {
-    match first_unbuilt(source, scoped) {
-        Ok(None) => items_text(alloc, scoped, budget),
-        Ok(Some(span)) => Err(ModuleFault::NotBuilt { span }),
-        Err(NoMemory) => Err(ModuleFault::NoMemory),
+    match first_unbuilt(source, scoped)? {
+        Some(span) => Err(ModuleFault::NotBuilt { span }),
+        None => items_text(alloc, scoped, budget),
     }
 }
 
