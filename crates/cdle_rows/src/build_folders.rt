@@ -178,7 +178,11 @@ fn words_of_build(rt: HostRuntime) -> Result<(), Fail> {
             "of {line}"
         );
     }
-    let rows = ["build m", "build --budget=200000 m", "build --budget 10000000 -- m"];
+    let rows = [
+        "build m",
+        "build --budget=200000 m",
+        "build --budget 10000000 -- m",
+    ];
     for line in rows.iter() {
         assert_eq!(rt;
             answer_to(alloc, line, SOURCE)?.as_str(),
@@ -208,9 +212,7 @@ fn budgets_of_omega(rt: HostRuntime) -> Result<(), Fail> {
 /// An equation of a term that grows as it is contracted, without end.
 fn growing(alloc: Global) -> Result<String, Fail> {
     let grow = "(λ x . λ a . x x ((λ y . y) a))";
-    Ok(format!(in alloc;
-        "module m.\nh : {{ {grow} {grow} (λ z . z) ≃ λ x . x }} = β .\n"
-    )?)
+    Ok(format!(in alloc; "module m.\nh : {{ {grow} {grow} (λ z . z) ≃ λ x . x }} = β .\n")?)
 }
 
 #[test]
@@ -253,7 +255,9 @@ fn limit_of_bytes(rt: HostRuntime) -> Result<(), Fail> {
 fn answer_of_nested(alloc: Global, deep: usize) -> Result<String, Fail> {
     let before = "(".repeat(alloc, deep)?;
     let after = ")".repeat(alloc, deep)?;
-    let source = format!(in alloc; "module m.\nT : ★ = ∀ X : ★ . X .\na : ★ = {before}T{after} .\n")?;
+    let source = format!(in alloc;
+        "module m.\nT : ★ = ∀ X : ★ . X .\na : ★ = {before}T{after} .\n"
+    )?;
     answer_to(alloc, "build m", &source)
 }
 

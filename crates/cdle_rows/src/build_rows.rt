@@ -99,10 +99,7 @@ fn refused_modules(rt: HostRuntime) -> Result<(), Fail> {
             "a : ∀ X : ★ . X ➔ X = Λ X . λ x . φ x - x { x } .",
             "2:37: refused: J3 wanted equation",
         ),
-        (
-            "a : ★ = ∀ F : ★ ➔ ★ . F .",
-            "2:23: refused: J4 wanted kind",
-        ),
+        ("a : ★ = ∀ F : ★ ➔ ★ . F .", "2:23: refused: J4 wanted kind"),
         (
             "a : ∀ X : ★ . ∀ Y : ★ . X ➔ Y = Λ X . Λ Y . λ x . x .",
             "2:51: refused: J5 mismatch",
@@ -184,10 +181,7 @@ fn malformed_modules(rt: HostRuntime) -> Result<(), Fail> {
         (".", "2:1: malformed: wanted item"),
         ("a : .", "2:5: malformed: wanted class"),
         ("a : ★ = λ", "3:1: malformed: wanted name"),
-        (
-            "id : ∀ X : ★ . X ➔ X = .",
-            "2:24: malformed: wanted term",
-        ),
+        ("id : ∀ X : ★ . X ➔ X = .", "2:24: malformed: wanted term"),
         ("a : ★ = ∀ X : ★ . X", "3:1: malformed: wanted ."),
     ];
     for (lines, wanted) in rows.iter() {
