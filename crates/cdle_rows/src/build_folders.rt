@@ -53,7 +53,7 @@ fn failing_calls(rt: HostRuntime) -> Result<(), Fail> {
 }
 
 /// The same, where the read that is this call gives that byte otherwise.
-fn answer_where_altered(alloc: Global, call: u32, at: usize, byte: u8) -> Result<String, Fail> {
+fn answer_where_altered(alloc: Global, call: u32, at: u32, byte: u8) -> Result<String, Fail> {
     let mut change = Vec::new(alloc);
     change.push(ChangeRead { call, at, byte })?;
     let mut folder = MemoryFolder::new(alloc, Vec::new(alloc), change);
