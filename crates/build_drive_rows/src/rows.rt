@@ -120,8 +120,7 @@ fn builds_identity(alloc: Global, wanted: &str) -> Result<bool, Fail> {
 
 #[test]
 fn identity_is_built(rt: HostRuntime) -> Result<(), Fail> {
-    let core =
-        "core 1\n(def m.id (allt _0 * (pi _1 _0 _0)) (xlam _0 * (lam _1 _0 _1)))\n";
+    let core = "core 1\n(def m.id (allt _0 * (pi _1 _0 _0)) (xlam _0 * (lam _1 _0 _1)))\n";
     assert!(rt; builds_identity(rt.alloc(), core)?);
     Ok(())
 }

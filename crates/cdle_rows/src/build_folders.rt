@@ -290,3 +290,47 @@ fn limit_of_items(rt: HostRuntime) -> Result<(), Fail> {
     );
     Ok(())
 }
+
+/// The answer to a datatype with this text, of which the middle stands so many times.
+fn answer_of_datatype(alloc: Global, copies: usize, parts: [&str; 3]) -> Result<String, Fail> {
+    let [before, middle, after] = parts;
+    let middle = middle.repeat(alloc, copies)?;
+    let source = format!(in alloc; "module m.\ndata D {before}{middle}{after}\n")?;
+    answer_to(alloc, "build m", &source)
+}
+
+#[test]
+fn limits_of_datatypes(rt: HostRuntime) -> Result<(), Fail> {
+    let unbuilt = "3 m.cdle:2:6: refused: form not built\nnone";
+    let rows = [
+        (
+            64,
+            [": ★ =", " | c : D", " ."],
+            "1 m.cdle:2:24: malformed: twice c\nnone",
+        ),
+        (
+            65,
+            [": ★ =", " | c : D", " ."],
+            "9 limit m.cdle: constructors\nnone",
+        ),
+        (32, [": ★ = | c : ", "D ➔ ", "D ."], unbuilt),
+        (
+            33,
+            [": ★ = | c : ", "D ➔ ", "D ."],
+            "9 limit m.cdle: arguments\nnone",
+        ),
+        (16, ["", "(A : ★) ", ": ★ = ."], unbuilt),
+        (
+            17,
+            ["", "(A : ★) ", ": ★ = ."],
+            "9 limit m.cdle: parameters\nnone",
+        ),
+    ];
+    for (copies, parts, wanted) in rows.iter() {
+        assert_eq!(rt;
+            answer_of_datatype(rt.alloc(), *copies, *parts)?.as_str(),
+            *wanted
+        );
+    }
+    Ok(())
+}
