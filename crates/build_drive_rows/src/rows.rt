@@ -115,7 +115,7 @@ fn builds_identity(alloc: Global, wanted: &str) -> Result<bool, Fail> {
         Some(core) => core.as_slice() == wanted.as_bytes(),
         None => false,
     };
-    Ok(is_written && report.as_slice() == b"built m modules 1 items 1\n")
+    Ok(is_written && report.as_slice() == "built m modules 1 items 1\n".as_bytes())
 }
 
 #[test]
