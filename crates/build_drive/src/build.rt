@@ -14,7 +14,7 @@ ghost use Rattle.build_drive.specs.BuildProgress.{IfEnded, IsBuilding};
 ghost use Rattle.build_drive.specs.BuildTraces.{IsThere, most_core_bytes, source_file};
 ghost use Rattle.build_outcome.specs.Changes.{most_bytes};
 
-use build_source::source_text;
+use crate::source::source_text;
 use crate::written::write_core;
 use build_outcome::{Done, Stop};
 use cdle_folder::Folder;
