@@ -1,5 +1,5 @@
 //! Calls over folders in memory, whose reports were written down by hand.
-use build_drive::{Done, core_command};
+use build_drive::{Done, build, core_command};
 use cdle_folder::{Folder, MemoryFolder, SureFolder};
 use std::alloc::Global;
 use std::test::Fail;
@@ -102,5 +102,25 @@ fn limits_and_faults(rt: HostRuntime) -> Result<(), Fail> {
     for (files, wanted) in rows.iter() {
         assert!(rt; reports(alloc, files, &mut folder, wanted)?);
     }
+    Ok(())
+}
+
+/// Whether the identity as the module `m` is built, and its Core file has these bytes.
+fn builds_identity(alloc: Global, wanted: &str) -> Result<bool, Fail> {
+    let mut folder = MemoryFolder::new(alloc, Vec::new(alloc), Vec::new(alloc));
+    folder.add("m.cdle", "module m.id:∀X:★.X➔X=ΛX.λx.x.".as_bytes())?;
+    let Done { outcome, report } = build(alloc, "m", 200_000, &mut folder);
+    drop(outcome);
+    let is_written = match folder.file("m.core") {
+        Some(core) => core.as_slice() == wanted.as_bytes(),
+        None => false,
+    };
+    Ok(is_written && report.as_slice() == "built m modules 1 items 1\n".as_bytes())
+}
+
+#[test]
+fn identity_is_built(rt: HostRuntime) -> Result<(), Fail> {
+    let core = "core 1\n(def m.id (allt _0 * (pi _1 _0 _0)) (xlam _0 * (lam _1 _0 _1)))\n";
+    assert!(rt; builds_identity(rt.alloc(), core)?);
     Ok(())
 }

@@ -4,4 +4,10 @@
 #![tactic(auto)]
 
 #[cfg(test)]
+mod build_folders;
+#[cfg(test)]
+mod build_rows;
+#[cfg(test)]
+mod calls;
+#[cfg(test)]
 mod rows;

@@ -1,58 +1,13 @@
 //! The worked calls of `core` over folders in memory, whose reports and statuses were written down by hand.
+use crate::calls::{end, only, put, run};
 use cdle_call::{Exit, Outcome, cdle_run};
-use cdle_folder::{Folder, MemoryFolder, MemorySink, SureFolder};
+use cdle_folder::{MemoryFolder, MemorySink, SureFolder};
 use std::alloc::Global;
 use std::test::Fail;
 
 const IDENTITY: &str = "core 1\n(def id (allt X * (pi x X X)) (xlam X * (lam x X x)))\n";
 
-/// The words of this line, which single spaces part.
-fn words_of(alloc: Global, line: &str) -> Result<Vec<String>, Fail> {
-    let mut words = Vec::new(alloc);
-    for word in line.split(' ') {
-        words.push(String::from_str(alloc, word)?)?;
-    }
-    Ok(words)
-}
-
-/// The end of the call with the words of this line.
-fn end<F: Folder>(
-    alloc: Global,
-    line: &str,
-    folder: &mut F,
-    out: &mut MemorySink,
-) -> Result<Exit, Fail> {
-    let words = words_of(alloc, line)?;
-    Ok(cdle_run(alloc, &words, folder, out))
-}
-
-/// Its status.
-fn status<F: Folder>(
-    alloc: Global,
-    line: &str,
-    folder: &mut F,
-    out: &mut MemorySink,
-) -> Result<u8, Fail> {
-    let exit = end(alloc, line, folder, out)?;
-    let status = exit.status;
-    drop(exit);
-    Ok(status)
-}
-
-/// Its status, and the report that was put, as one text.
-fn run<F: Folder>(alloc: Global, line: &str, folder: &mut F) -> Result<String, Fail> {
-    let mut out = MemorySink::new(alloc, Vec::new(alloc), 4096)?;
-    let status = status(alloc, line, folder, &mut out)?;
-    put(alloc, status, &out)
-}
-
-/// The status and what went out, as one text.
-fn put(alloc: Global, status: u8, out: &MemorySink) -> Result<String, Fail> {
-    let report = String::from_utf8_lossy(alloc, out.bytes())?;
-    Ok(format!(in alloc; "{status} {report}")?)
-}
-
-/// The same of the line over one file, `a.core`.
+/// The status and the report of the line over one file, `a.core`.
 fn answer(alloc: Global, line: &str, text: &[u8]) -> Result<String, Fail> {
     let mut folder = SureFolder::new(alloc);
     folder.add("a.core", text)?;
@@ -375,7 +330,6 @@ fn words(rt: HostRuntime) -> Result<(), Fail> {
         "core --",
         "core --help",
         "Core a.core",
-        "build a",
         "make 4",
     ];
     for line in rows.iter() {
@@ -430,13 +384,6 @@ fn several_files(rt: HostRuntime) -> Result<(), Fail> {
         );
     }
     Ok(())
-}
-
-/// The numbers of the calls that fail: this one.
-fn only(alloc: Global, call: u32) -> Result<Vec<u32>, Fail> {
-    let mut calls = Vec::new(alloc);
-    calls.push(call)?;
-    Ok(calls)
 }
 
 /// The same of `core a.core b.core`, where this call on the folder fails.
