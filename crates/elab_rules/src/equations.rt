@@ -28,12 +28,7 @@ use std::alloc::Global;
 
 impl Rules<'_> {
     /// The equation of two pure terms, with its kind.
-    pub fn equation(
-        &self,
-        form: Span,
-        left: &EPure,
-        right: &EPure,
-    ) -> Result<(EType, EKind), Fault>
+    pub fn equation(&self, form: Span, left: &EPure, right: &EPure) -> Result<(EType, EKind), Fault>
         ensures { Meets self.now.env.now self.now.budget (gives_type (place form) (eq left.now right.now) star) result }
     {
         let ty = EType::eq(self.alloc, left, right)?;

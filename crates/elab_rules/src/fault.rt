@@ -50,7 +50,7 @@ impl<T: Drop> From<AllocFailed<T>> for Fault {
 
 impl Fault {
     /// The fault of this form, where a change of its trees was stopped.
-    pub(crate) fn stopped(form: Span, stop: TreeStop) -> Fault
+    pub fn stopped(form: Span, stop: TreeStop) -> Fault
         ensures { result ≡ fault_of form stop }
     {
         match stop {
