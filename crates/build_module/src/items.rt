@@ -75,8 +75,8 @@ fn named(alloc: Global, name: &Text) -> ModuleFault
 }
 
 /// The text of these items.
-fn printed(alloc: Global, items: &Vec<OutItem>) -> Result<Vec<u8>, ModuleFault>
-    ensures { OfPrinted (map written items.now.items) result }
+fn printed(alloc: Global, items: &[OutItem]) -> Result<Vec<u8>, ModuleFault>
+    ensures { OfPrinted (map written items.now) result }
 {
     let names = names_of(alloc, items)?;
     if items.len() > u32::MAX as usize {
@@ -90,8 +90,8 @@ fn printed(alloc: Global, items: &Vec<OutItem>) -> Result<Vec<u8>, ModuleFault>
 }
 
 /// That the item of that number nests too deep.
-fn deep_item(alloc: Global, items: &Vec<OutItem>, number: u32) -> ModuleFault
-    ensures { IsDeepAt (get_or (names_of (map written items.now.items)) number []) result }
+fn deep_item(alloc: Global, items: &[OutItem], number: u32) -> ModuleFault
+    ensures { IsDeepAt (get_or (names_of (map written items.now)) number []) result }
 {
     match items.get(number as usize) {
         Some(item) => named(alloc, item.name()),
@@ -101,8 +101,8 @@ fn deep_item(alloc: Global, items: &Vec<OutItem>, number: u32) -> ModuleFault
 }
 
 /// The names of the items.
-fn names_of(alloc: Global, items: &Vec<OutItem>) -> Result<Vec<Text>, NoMemory>
-    ensures { IfOk result (λ names. names.items ≡ map (λ item. name_of (written item)) items.now.items) }
+fn names_of(alloc: Global, items: &[OutItem]) -> Result<Vec<Text>, NoMemory>
+    ensures { IfOk result (λ names. names.items ≡ map (λ item. name_of (written item)) items.now) }
 {
     let mut names = Vec::new(alloc);
     for item in items {

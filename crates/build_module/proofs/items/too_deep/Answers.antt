@@ -1,9 +1,14 @@
-use Rattle.std.proofs.Common.{ℕ, List, subst}
+use Rattle.std.proofs.Common.{◌≡◌, ℕ, List, Some, refl, slice_get, subst}
+use Rattle.std.proofs.lemmas.Option.{slice_get_read}
 use Rattle.scoped_tree.specs.Items.{item_of, module_of}
+use Rattle.scoped_tree.specs.declared.items.ScopedItem.{ScopedItem}
 use Rattle.build_module.specs.Answers.{IsDeepAt}
 use Rattle.build_module.proofs.Given.{of_deep, there_map}
 use Rattle.build_module.proofs.items.too_deep.Goals as goal
 
 pub returns-in-Some : goal.returns-in-Some
-returns-in-Some c = λ n es h. of_deep n (module_of c.args.scoped.now) es c.args.number (item_of c.in-Some.item.now) c.named.result h
-    (there_map item_of c.args.scoped.now.items.items c.args.number c.in-Some.item.now c.in-Some.ensures) (subst (λ (w : List ℕ). IsDeepAt w c.named.result) c.written_name.ensures c.named.ensures)
+returns-in-Some c =
+    let l = c.in-Some.ensures.lookup in
+    let there = subst (λ (xs : List ScopedItem). slice_get xs c.args.number ≡ Some c.in-Some.item.now) c.deref.ensures.value (slice_get_read _ _ _ _ refl l.3.0 l.1) in
+    λ n es h. of_deep n (module_of c.args.scoped.now) es c.args.number (item_of c.in-Some.item.now) c.named.result h
+    (there_map item_of c.args.scoped.now.items.items c.args.number c.in-Some.item.now there) (subst (λ (w : List ℕ). IsDeepAt w c.named.result) c.written_name.ensures c.named.ensures)
