@@ -1,4 +1,5 @@
 pub mod Forms
+pub mod Rewriting
 pub mod Answers
 pub mod Contexts
 pub mod Items

@@ -8,10 +8,13 @@
 mod calls;
 mod checker;
 mod context;
+mod equation;
 mod fault;
 mod item;
 mod kind;
+mod pair;
 mod parts;
+mod rewrite;
 mod term;
 mod ty;
 

@@ -14,9 +14,9 @@ ghost use Rattle.elab_rules.specs.Endings as ends;
 ghost use Rattle.elab_rules.specs.Spines.{MeetsMade, MeetsSpine, binary_of, binder_of, spine_of};
 ghost use Rattle.elab_rules.specs.declared.spine.Argument.TheVariants.{Erased as ErasedArgument};
 ghost use Rattle.scope_model.specs.Scoped.{Scoped as Source};
-ghost use Rattle.scoped_tree.specs.Trees.{bind_form, place, two_form};
+ghost use Rattle.scoped_tree.specs.Trees.{bind_form, one_form, place, two_form};
 ghost use Rattle.source_model.specs.Heights.{span_of};
-ghost use Rattle.source_model.specs.Source.{Span as Where, bind, two};
+ghost use Rattle.source_model.specs.Source.{Span as Where, bind, one, two};
 ghost use Rattle.elab_check.specs.Forms.{abstracted, applies, of_product, seen_goal};
 
 use crate::checker::Checker;
@@ -25,7 +25,7 @@ use cdle_names::Span;
 use elab_model::Code;
 use elab_rules::{Argument, At, Context, Fault, Former, Made, Product, Spine};
 use elab_tree::{EKind, ETerm, EType};
-use scoped_tree::{BindForm, Scoped, ScopedForm, TwoForm};
+use scoped_tree::{BindForm, OneForm, Scoped, ScopedForm, TwoForm};
 
 impl Checker<'_> {
     /// A term with its type.
@@ -68,11 +68,14 @@ impl Checker<'_> {
     {
         match node.form() {
             ScopedForm::Use(name) => self.rules.term_name(node.span(), context, *name),
-            ScopedForm::Two(form, left, right) => self.of_two(context, *form, left, right, whole),
+            ScopedForm::Two(form, left, right) => {
+                self.of_two(context, node.span(), *form, left, right, goal, whole)
+            }
             ScopedForm::Bind(form, domain, part) => {
                 self.of_binder(context, node.span(), *form, domain, part, goal)
             }
-            // Not built yet: a module that has such a form is refused before.
+            ScopedForm::One(form, part) => self.of_one(context, node.span(), *form, part),
+            // No scoped term comes to this.
             _ => Err(Fault::NoMemory),
         }
     }
@@ -82,19 +85,44 @@ impl Checker<'_> {
     fn of_two(
         &self,
         context: &Context<'_>,
+        span: Span,
         form: TwoForm,
         left: &Scoped,
         right: &Scoped,
+        goal: Option<&EType>,
         whole: Span,
     ) -> Result<Made, Fault>
-        ensures { (s : Where) (g : Option Tree) → MeetsMade self.now.rules.env.now self.now.rules.budget (term (env_of self.now.rules.env.now) no_encodings (entries context.now) (two s (two_form form) left.now right.now) g (place whole)) result }
+        ensures { MeetsMade self.now.rules.env.now self.now.rules.budget (term (env_of self.now.rules.env.now) no_encodings (entries context.now) (two (place span) (two_form form) left.now right.now) (seen_goal goal.entry) (place whole)) result }
     {
         match form {
             TwoForm::App => self.application(context, Argument::Kept, left, right, whole),
             TwoForm::Eapp => self.application(context, Argument::Erased, left, right, whole),
             TwoForm::Tapp => self.type_application(context, left, right, whole),
-            // Not built yet: a module that has such a form is refused before.
+            TwoForm::Pair => self.pair(context, span, left, right, goal),
+            TwoForm::Beta => self.reflexivity(span, left, right, goal),
+            TwoForm::Delta => self.absurdity(context, span, left, right, goal),
+            TwoForm::Chi => self.annotated(context, span, left, right),
+            TwoForm::Phi => self.cast(context, span, left, right, goal),
+            TwoForm::Rho => self.guided(context, span, left, right, goal),
             _ => Err(Fault::NoMemory),
+        }
+    }
+
+    /// A form of one part.
+    #[cycle(infer)]
+    fn of_one(
+        &self,
+        context: &Context<'_>,
+        span: Span,
+        form: OneForm,
+        part: &Scoped,
+    ) -> Result<Made, Fault>
+        ensures { (g : Option Tree) (w : Where) → MeetsMade self.now.rules.env.now self.now.rules.budget (term (env_of self.now.rules.env.now) no_encodings (entries context.now) (one (place span) (one_form form) part.now) g w) result }
+    {
+        match form {
+            OneForm::Fst => self.first_of(context, span, part),
+            OneForm::Snd => self.second_of(context, span, part),
+            OneForm::Flip => self.flip(context, span, part),
         }
     }
 

@@ -1,9 +1,9 @@
 //! Types with their kinds, by the rules read upwards.
-ghost use Rattle.std.specs.Prelude.{◌∷◌};
-ghost use Rattle.cdle_model.specs.Derivation.{term_of, type_of};
+ghost use Rattle.std.specs.Prelude.{List, ◌∷◌};
+ghost use Rattle.cdle_model.specs.Derivation.{Entry, term_of, type_of};
 ghost use Rattle.elab_model.specs.Questions.{gives};
 ghost use Rattle.elab_model.specs.Rules.{star_then, type as type_in};
-ghost use Rattle.elab_model.specs.ScopedForms.{s_allt, s_at, s_on, s_tlam, s_xtlam};
+ghost use Rattle.elab_model.specs.ScopedForms.{s_allt, s_at, s_eq, s_on, s_tlam, s_xtlam};
 ghost use Rattle.elab_model.specs.Soundness.{no_encodings};
 ghost use Rattle.elab_reduce.specs.Items.{env_of};
 ghost use Rattle.elab_rules.specs.Answers.{Meets};
@@ -14,6 +14,7 @@ ghost use Rattle.elab_check.specs.Forms.{formed};
 
 use crate::checker::Checker;
 use cdle_names::Span;
+use elab_erase::erased_term;
 use elab_rules::{At, Context, Fault, Former};
 use elab_tree::{EKind, EType};
 use scoped_tree::{BindForm, Scoped, ScopedForm, TwoForm};
@@ -66,9 +67,24 @@ impl Checker<'_> {
         match form {
             TwoForm::At => self.type_at_term(context, span, head, arg),
             TwoForm::On => self.type_at_type(context, span, head, arg),
-            // Not built yet: a module that has such a form is refused before.
+            TwoForm::Eq => self.equation_type(span, head, arg),
+            // No scoped type comes to this.
             _ => Err(Fault::NoMemory),
         }
+    }
+
+    /// `{ t ≃ u }`.
+    fn equation_type(
+        &self,
+        span: Span,
+        left: &Scoped,
+        right: &Scoped,
+    ) -> Result<(EType, EKind), Fault>
+        ensures { (c : List Entry) → Meets self.now.rules.env.now self.now.rules.budget (type_in (env_of self.now.rules.env.now) no_encodings c (s_eq (place span) left.now right.now)) result }
+    {
+        let left = erased_term(&self.rules, left)?;
+        let right = erased_term(&self.rules, right)?;
+        self.rules.equation(span, &left, &right)
     }
 
     /// A type of two parts of which the second stands under the binder.

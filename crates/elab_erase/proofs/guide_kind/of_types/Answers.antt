@@ -1,0 +1,6 @@
+use Rattle.std.proofs.lemmas.Result.{err_from_is_err_and}
+use Rattle.elab_rules.proofs.Steps.{no_memory}
+use Rattle.elab_erase.proofs.guide_kind.of_types.Goals as goal
+
+pub returns-in_err-kpit : goal.returns-in_err-kpit
+returns-in_err-kpit c = let p = err_from_is_err_and c.from_residual.result c.from_residual.ensures.1 in rw (p.1, p.2) (λ e n. no_memory e n _)
