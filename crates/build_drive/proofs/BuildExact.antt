@@ -114,7 +114,7 @@ one_build n f name (given a s d) (given b t e) o p h g x y =
     let same = same_given n name a b x.0 y.0 s t (same_bytes (f (source_file name)) a b h.0.1 g.0.1) x.1 y.1 in
     let there : IsFaultlessCore s e = subst (λ (z : Bytes). IsFaultlessCore z e) (sym same.1) g.1 in
     let found : IsCoreOutcome (IsVerdictAtSomeBudget n) (core_file name) s x.0 e p =
-        subst (λ (us : List Written). IsCoreOutcome (IsVerdictAtSomeBudget n) (core_file name) s us e p) (sym same.0) (subst (λ (z : Bytes). IsCoreOutcome (IsVerdictAtSomeBudget n) (core_file name) z y.0 e p) (sym same.1) y.2) in
+    subst (λ (us : List Written). IsCoreOutcome (IsVerdictAtSomeBudget n) (core_file name) s us e p) (sym same.0) (subst (λ (z : Bytes). IsCoreOutcome (IsVerdictAtSomeBudget n) (core_file name) z y.0 e p) (sym same.1) y.2) in
     one_core n (core_file name) s x.0 d e o p h.1 there x.2 found
 
 pub at_some : (n : ℕ) (name : Bytes) (t : BuildTrace) (o : Outcome) → IsBuildOutcome (IsVerdictAtBudget n) n name t o → IsBuildOutcome (IsVerdictAtSomeBudget n) n name t o

@@ -50,11 +50,12 @@ core_later a m z g file text (contents bytes) same reads faults absences h =
 pub ended_after : (n : ℕ) (a m z : FolderState) (name text : Bytes) (d : Done) → IsUntouched (change a m) → a.read_faults ≤ m.read_faults → a.absences ≤ m.absences
     → HasGiven n (change a m) name text → EndsWriting n (change m z) name text d → IsBuilding n (change a z) name d
 ended_after n a m z name text d same faults absences h w =
-    let said = given_text n h.0 name h.2.0 text h.2.1 in
-    (given h.0 text w.0,
-    (h.1.1, core_later a m z (with_read (source_file name) h.0 a.given) (core_file name) text w.0 same h.1.0 faults absences w.1),
-    (h.2.0, h.2.1, w.2 h.2.0 said.core_says said.derived),
-    w.3)
+    let said = given_text n h.0 name h.2.0 text h.2.1 in (
+      given h.0 text w.0,
+      (h.1.1, core_later a m z (with_read (source_file name) h.0 a.given) (core_file name) text w.0 same h.1.0 faults absences w.1),
+      (h.2.0, h.2.1, w.2 h.2.0 said.core_says said.derived),
+      w.3,
+    )
 
 -- ---- as results
 
@@ -86,5 +87,10 @@ pub left_after : (n : ℕ) (a m z : FolderState) (name text : Bytes) → IsUntou
     → IsLeft n (change a z) name
 left_after n a m z name text same h (inl e) = inl (e ∙ same.files)
 left_after n a m z name text same h (inr (inl e)) = inr (h.0, text, h.1.1.1, h.2, inl (e ∙ ap (option_map (with_file (core_file name) text)) same.files))
-left_after n a m z name text same h (inr (inr r)) = inr (h.0, text, h.1.1.1, h.2,
-    inr (subst (λ (k : ℕ). Rose k z.write_faults) same.faults r.0, subst (λ (o : Option Files). IsOtherwiseSame (core_file name) o z.files) same.files r.1))
+left_after n a m z name text same h (inr (inr r)) = inr (
+  h.0,
+  text,
+  h.1.1.1,
+  h.2,
+  inr (subst (λ (k : ℕ). Rose k z.write_faults) same.faults r.0, subst (λ (o : Option Files). IsOtherwiseSame (core_file name) o z.files) same.files r.1),
+)

@@ -66,12 +66,18 @@ text_settled : (n : ℕ) (f : Files) (name source text : Bytes) (ws : List Writt
 text_settled n f name source text ws there answer = elim (cases_lt most_core_bytes (length text)) [
   | inl long ↦ inl (outcome.Limit (core_file name) OfBytes, (given source text (unread too_long), (there, long), (ws, answer, refl)))
   | inr short ↦
-    let said = given_text n source name ws text answer in
-    elim (verdict-there n ws (said-over text [] ws said.core_says)) [
-      | inl verdict ↦ inl (as_module verdict.0, (given source text (contents text), (there, (short, refl)),
-          (ws, answer, inl (refl, one_module n ws (check_items n ws) verdict.0 said.derived refl verdict.1))))
-      | inr spent ↦ inr (source, text, ws, there, answer, short, spent.0, spent.1, spent.2)
-    ]
+      let said = given_text n source name ws text answer in
+      elim (verdict-there n ws (said-over text [] ws said.core_says)) [
+        | inl verdict ↦ inl (
+          as_module verdict.0,
+          (
+            given source text (contents text),
+            (there, (short, refl)),
+            (ws, answer, inl (refl, one_module n ws (check_items n ws) verdict.0 said.derived refl verdict.1)),
+          ),
+        )
+        | inr spent ↦ inr (source, text, ws, there, answer, short, spent.0, spent.1, spent.2)
+      ]
 ]
 
 source_settled : (n : ℕ) (f : Files) (name source : Bytes) → IsThere (Some f) most_bytes (source_file name) source → Settled n f name

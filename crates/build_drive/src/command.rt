@@ -15,8 +15,8 @@ ghost use Rattle.build_outcome.specs.declared.outcome.Spot.{Spot as SpotOf};
 ghost use Rattle.build_outcome.specs.declared.outcome.Outcome.TheVariants as outcomes;
 
 use crate::check::checked;
-use build_outcome::{Done, Stop};
 use crate::reading::read_files;
+use build_outcome::{Done, Stop};
 use cdle_folder::Folder;
 use std::alloc::Global;
 

@@ -62,12 +62,7 @@ pub fn build<F: Folder>(alloc: Global, name: &str, budget: u64, folder: &mut F) 
 }
 
 /// The work of the command: the text of the Core file, and then that file.
-fn building<F: Folder>(
-    alloc: Global,
-    name: &str,
-    budget: u64,
-    folder: &mut F,
-) -> Result<Done, Stop>
+fn building<F: Folder>(alloc: Global, name: &str, budget: u64, folder: &mut F) -> Result<Done, Stop>
     ensures left { IsLeft budget (record { before = F.state folder.old; after = F.state folder.new }) name.now }
     ensures done { IfOk result (IsBuilding budget (record { before = F.state folder.old; after = F.state folder.new }) name.now) }
     ensures ended { IfErr result (IfEnded (IsBuilding budget (record { before = F.state folder.old; after = F.state folder.new }) name.now)) }

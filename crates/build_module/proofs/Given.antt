@@ -91,9 +91,9 @@ of_deep n r es i s (faults.TooDeep w) h there named =
     let same : e.item ≡ s = some_one (sym e.there ∙ there) in
     let name : stuck_at n nothing r.items ≡ w = stuck n nothing r.items i e.item e.before h.0 e.there e.given e.answered ∙ ap source_name same ∙ sym named in
     found_so n r (too_deep h.0) _ e.all (ap (λ (x : Text). Some (deepens x)) name)
-    where
-      some_one : {A : Type 0} {x y : A} → Some x ≡ Some y → x ≡ y
-      some_one e = cc
+  where
+    some_one : {A : Type 0} {x y : A} → Some x ≡ Some y → x ≡ y
+    some_one e = cc
 of_deep n r es i s f h there named = absurd named
 
 -- ---- what is printed, and what was elaborated
