@@ -1,0 +1,4 @@
+pub mod Ordered
+pub mod Counts
+pub mod Answers
+pub mod Steps

@@ -1,0 +1,4 @@
+pub mod Lists
+pub mod Progress
+pub mod Closed
+pub mod OneReading

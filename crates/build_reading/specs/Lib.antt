@@ -1,0 +1,4 @@
+pub mod Files
+pub mod Order
+pub mod Readings
+pub mod Steps

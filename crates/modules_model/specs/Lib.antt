@@ -1,0 +1,2 @@
+pub mod ModuleTexts
+pub mod AllBuilt

@@ -1,0 +1,4 @@
+pub mod Reading
+pub mod Orders
+pub mod Cycles
+pub mod Renamed
